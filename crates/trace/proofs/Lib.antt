@@ -1,0 +1,5 @@
+pub mod Digits
+pub mod Shapes
+pub mod Chains
+pub mod Walks
+pub mod Reading

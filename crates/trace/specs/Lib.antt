@@ -1,0 +1,6 @@
+pub mod Told
+pub mod Refusals
+pub mod Kinds
+pub mod Numbers
+pub mod Files
+pub mod Reading
