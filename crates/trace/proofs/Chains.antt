@@ -11,11 +11,11 @@ use Rattle.std.specs.declared.result.Result.{Result}
 use Rattle.std.specs.declared.result.Result.the-variants.{Ok, Err}
 use Rattle.trace.specs.declared.refusal.Fault.{Fault}
 use Rattle.trace.specs.declared.file.Header.{Header}
-use Rattle.trace.specs.Told.{Told, only}
+use Rattle.trace.specs.Told.{Told, only, fault}
 use Rattle.trace.specs.Kinds.{kinds, in-range, made}
 use Rattle.trace.specs.Refusals.{answer, told-fault}
 use Rattle.trace.specs.Reading.{Verified}
-use Rattle.trace.specs.Files.{Read, Head, Trace, and-then, fault, number-at, counted, headed, of-kind, head-of, samples-at, ended, bodied, trace-file}
+use Rattle.trace.specs.Files.{Read, Head, Trace, and-then, number-at, counted, headed, of-kind, head-of, samples-at, ended, bodied, trace-file}
 
 module _ {A B : Type 0} (f : A → Result B Told) where
   pub then-ok : {x : Result A Told} {a : A} → x ≡ Ok a → and-then x f ≡ f a
@@ -35,6 +35,9 @@ module _ (kind : ℕ) (file : List ℕ) (k : Read ℕ) (read : number-at 1 kinds
 
   pub head-broke : {e : Told} → number-at 1 65535 1 file (k .next) ≡ Err e → head-of kind file ≡ Err e
   head-broke e = head-is ∙ then-err (counted file) e
+
+  pub head-uncounted : (m : Read ℕ) {e : Told} → number-at 1 65535 1 file (k .next) ≡ Ok m → number-at 1 4096 2 file (m .next) ≡ Err e → head-of kind file ≡ Err e
+  head-uncounted m ok bad = head-is ∙ then-ok (counted file) ok ∙ then-err (headed m) bad
 
   pub head-whole : (m c : Read ℕ) → number-at 1 65535 1 file (k .next) ≡ Ok m → number-at 1 4096 2 file (m .next) ≡ Ok c → head-of kind file ≡ headed m c
   head-whole m c e h = head-is ∙ then-ok (counted file) e ∙ then-ok (headed m) h

@@ -6,7 +6,7 @@ use lib.Dec.{leb, eqb}
 use lib.ListN.{length, drop}
 use Rattle.std.specs.declared.result.Result.{Result}
 use Rattle.std.specs.declared.result.Result.the-variants.{Ok, Err}
-use Rattle.trace.specs.Told.{Told}
+use Rattle.trace.specs.Told.{Told, fault}
 use Rattle.trace.specs.Kinds.{kinds}
 use Rattle.trace.specs.Numbers.{Number, found, none, number}
 
@@ -19,9 +19,6 @@ pub record Read (A : Type 0) : Type 0 where
 abbrev pub and-then : {A B : Type 0} → Result A Told → (A → Result B Told) → Result B Told
 and-then (Ok a) f = f a
 and-then (Err e) f = Err e
-
-abbrev pub fault : ℕ → ℕ → ℕ → Told
-fault cause place field = record { number = cause; place = place; field = field }
 
 -- what stands at a place as a number of the field f, from low to high
 abbrev pub ranged : ℕ → ℕ → ℕ → ℕ → Number → Result (Read ℕ) Told

@@ -4,3 +4,5 @@ pub mod Kinds
 pub mod Numbers
 pub mod Files
 pub mod Reading
+pub mod Spelling
+pub mod Examples

@@ -9,7 +9,7 @@ use Rattle.trace.specs.declared.refusal.Field.the-variants as field
 use Rattle.trace.specs.declared.refusal.Fault.{Fault}
 use Rattle.trace.specs.declared.refusal.Refusal.{Refusal}
 use Rattle.trace.specs.declared.refusal.Refusal.the-variants as refusal
-use Rattle.trace.specs.Told.{Told, only}
+use Rattle.trace.specs.Told.{Told, only, fault}
 
 abbrev pub cause-number : Cause → ℕ
 cause-number cause.EndsInsideNumber = 4
@@ -26,7 +26,7 @@ field-number field.Sample = 3
 field-number field.End = 4
 
 abbrev pub told-fault : Fault → Told
-told-fault f = record { number = cause-number (f .cause); place = f .place; field = field-number (f .field) }
+told-fault f = fault (cause-number (f .cause)) (f .place) (field-number (f .field))
 
 abbrev pub told : Refusal → Told
 told refusal.TooShort = only 3

@@ -1,12 +1,11 @@
 -- Refusals by their numbers, as docs/REFUSALS.md lists them. Assumes nothing.
 use Prim.Native.Nat.{ℕ}
 
--- a refusal's number; in a trace file also the byte place and the field that it lies in
-pub record Told : Type 0 where
-  pub number : ℕ
-  pub place : ℕ
-  pub field : ℕ
+-- a refusal as it is told
+pub data Told : Type 0 where
+  only : ℕ → Told  -- its number
+  fault : ℕ → ℕ → ℕ → Told  -- in a trace file: its number, the byte place, and the field
 
--- a refusal that is no file's has its number alone
-abbrev pub only : ℕ → Told
-only n = record { number = n; place = 0; field = 0 }
+abbrev pub number-of : Told → ℕ
+number-of (only n) = n
+number-of (fault n place field) = n

@@ -7,6 +7,7 @@ ghost use Rattle.std.specs.Vec.{made};
 ghost use Rattle.std.specs.declared.result.Result.the-variants.{Ok, Err};
 ghost use Rattle.trace.specs.Refusals.{answer, told, told-fault, field-number};
 ghost use Rattle.trace.specs.Files.{Read, number-at, fields-at, samples-at, head-of, trace-file};
+ghost use Rattle.trace.specs.Spelling.{Read-or-refused};
 ghost use Rattle.trace.specs.Reading.{head, fitted, counts, codes-over, Samples-over, Sound, Verified};
 use crate::number::number;
 use crate::refusal::Cause;
@@ -174,6 +175,7 @@ pub fn read_codes<S: Sample>(file: &[u8], codes: &mut [u16]) -> Result<Header, R
     ensures is { λ r. ⌜ answer head told r ≡ counts (fitted (length (now (codes .entry))) (trace-file (kind .number) (kind .tops) (now (file .entry)))) ⌝ }
     ensures put { λ _. ⌜ now (codes .exit) ≡ codes-over (kind .code) (fitted (length (now (codes .entry))) (trace-file (kind .number) (kind .tops) (now (file .entry)))) (now (codes .entry)) ⌝ }
     ensures few { λ r. ⌜ made r (λ h. (1 ≤ h .count) × (h .count ≤ 4096) × (h .count ≤ length (now (codes .entry)))) ⌝ }
+    ensures one { λ _. ⌜ Read-or-refused (kind .number) (kind .tops) (now (file .entry)) ⌝ }
 {
     let (header, first) = verify::<S>(file)?;
     if codes.len() < header.count as usize {

@@ -1,5 +1,7 @@
 //! Kinds of samples, numbers, and trace files.
+pub mod examples;
 pub mod file;
+pub mod limits;
 pub mod number;
 pub mod pulse;
 pub mod refusal;

@@ -1,6 +1,7 @@
 //! Why a call is refused, and the numbers that refusals have.
 ghost use mathlib.Core.Path.{_≡_};
 ghost use Rattle.trace.specs.Refusals.{cause-number, field-number, told};
+ghost use Rattle.trace.specs.Told.{number-of};
 ghost use Rattle.trace.specs.declared.refusal.Refusal.the-variants.{File};
 
 /// What is wrong in a trace file.
@@ -70,7 +71,7 @@ pub enum Refusal {
 impl Refusal {
     /// The number of the refusal, 3 to 8.
     pub fn number(self) -> u8
-        ensures { λ r. ⌜ r ≡ told self .number ⌝ }
+        ensures { λ r. ⌜ r ≡ number-of (told self) ⌝ }
     {
         match self {
             Refusal::TooShort => 3,

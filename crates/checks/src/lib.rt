@@ -1,0 +1,3 @@
+//! Tests of the other crates, here so that those are proved only once.
+#[cfg(test)]
+mod trace_files;

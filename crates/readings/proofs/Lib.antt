@@ -1,0 +1,5 @@
+pub mod Spelling
+pub mod Asking
+pub mod Codes
+pub mod Both
+pub mod Blank
