@@ -1,0 +1,57 @@
+ghost use mathlib.Core.Path.{_≡_};
+ghost use mathlib.Core.Bool.{Bool, true, false};
+ghost use mathlib.Core.List.{List};
+ghost use Prim.Native.Nat.{ℕ, _+_, _-_, _*_, _<_, _≤_};
+ghost use lib.ListN.{length, getD, take};
+ghost use Rattle.filters.specs.Questions.{question};
+ghost use Rattle.filters.specs.Filters.{none, pattern-of, Stands-for};
+ghost use Rattle.filters.specs.Rules.{tuple-rule, tuple-reach};
+
+use crate::table::Table;
+use crate::filter::Filter;
+use crate::refusal::Refusal;
+
+#[derive(Clone, Copy)]
+pub struct Continuous {
+    table: Table,
+    ghost kind: { table .wide ≡ false },
+}
+
+impl Continuous {
+    pub fn new() -> Self
+        ensures { λ r. ⌜ Stands-for (tuple-rule false) (tuple-reach false) (pattern-of (tuple-rule false) (tuple-reach false) (question (r .table .held .codes) (r .table .held .q) (r .table .held .m) (r .table .held .k))) none ⌝ }
+    {
+        Continuous { table: Table::new(false) }
+    }
+}
+
+pub impl Filter for Continuous as ContinuousFilter {
+    ghost stands = { λ x. pattern-of (tuple-rule false) (tuple-reach false) (question (x .table .held .codes) (x .table .held .q) (x .table .held .m) (x .table .held .k)) };
+    ghost rule = { tuple-rule false };
+    ghost reaches = { tuple-reach false };
+
+    fn set(&mut self, codes: &[u16], m: usize, k: usize) -> Result<(), Refusal> {
+        self.table = Table::of(false, codes, m, k)?;
+        Ok(())
+    }
+
+    fn clear(&mut self) {
+        self.table = Table::new(false);
+    }
+
+    fn len(&self) -> usize {
+        self.table.len()
+    }
+
+    fn reach(&self) -> usize {
+        self.table.held.window() - self.table.held.share()
+    }
+
+    fn passes(&self, trace: &[u16], i: usize, j: usize) -> bool {
+        self.table.passes(trace, i, j)
+    }
+
+    fn mark_row(&self, trace: &[u16], j: usize, marks: &mut [u8]) -> Result<usize, Refusal> {
+        self.table.row(trace, j, marks)
+    }
+}
