@@ -32,9 +32,9 @@ pub digits-sum : (d : ℕ → ℕ) (n : ℕ) → sum n (λ x. d x * 640 ^ (n - 1
 digits-sum d zero = refl
 digits-sum d (suc n) =
     let inner = sum-ext n (λ x. d x * 640 ^ (suc n - 1 - x)) (λ x. d x * 640 ^ (n - 1 - x) * 640)
-        (λ x l.
-            let e : suc n - 1 - x ≡ suc (n - 1 - x) = omega arith in
-            ap (λ z. d x * 640 ^ z) e ∙ (ap (λ z. d x * z) (pow-suc 640 (n - 1 - x)) ∙ sym (mul-assoc (d x) (640 ^ (n - 1 - x)) 640))) in
+    (λ x l.
+    let e : suc n - 1 - x ≡ suc (n - 1 - x) = omega arith in
+    ap (λ z. d x * 640 ^ z) e ∙ (ap (λ z. d x * z) (pow-suc 640 (n - 1 - x)) ∙ sym (mul-assoc (d x) (640 ^ (n - 1 - x)) 640))) in
     let outer = sum-times n 640 (λ x. d x * 640 ^ (n - 1 - x)) in
     let ih = digits-sum d n in
     let e : suc n - 1 - n ≡ 0 = omega arith in
@@ -55,8 +55,8 @@ pub mul-mod : (a b m : ℕ) → a * (b % m) % m ≡ a * b % m
 mul-mod a b m =
     let e = div-add-mod b m in
     let f : a * b ≡ m * (a * (b / m)) + a * (b % m) =
-        ap (λ z. a * z) (sym e) ∙ (mul-add a (m * (b / m)) (b % m) ∙
-        ap (λ z. z + a * (b % m)) (sym (mul-assoc a m (b / m)) ∙ (ap (λ z. z * (b / m)) (mul-comm a m) ∙ mul-assoc m a (b / m)))) in
+    ap (λ z. a * z) (sym e) ∙ (mul-add a (m * (b / m)) (b % m) ∙
+    ap (λ z. z + a * (b % m)) (sym (mul-assoc a m (b / m)) ∙ (ap (λ z. z * (b / m)) (mul-comm a m) ∙ mul-assoc m a (b / m)))) in
     sym (ap (λ z. z % m) f ∙ mul-add-mod-self-left m (a * (b / m)) (a * (b % m)))
 
 pub digits-more : (d : ℕ → ℕ) (n : ℕ) → digits d (n + 1) ≡ digits d n * 640 + d n
@@ -96,12 +96,12 @@ pub rolls : (l g : ℕ) (xs : List ℕ) (i p : ℕ) → p ≡ 640 ^ l % 1021 →
     ((tuple-number (suc l) g xs i + 1021 - getD xs i 0 * p % 1021) * 640 + getD xs (i + g + l * g) 0) % 1021 ≡ tuple-number (suc l) g xs (i + g)
 rolls l g xs i p e =
     let n : tuple-number (suc l) g xs i ≡ (getD xs i 0 * 640 ^ l + digits (λ x. digit xs g i (suc x)) l) % 1021 =
-        number-digits (suc l) g xs i ∙ (ap (λ z. z % 1021) (digits-first (digit xs g i) l) ∙
-        ap (λ z. (getD xs z 0 * 640 ^ l + digits (λ x. digit xs g i (suc x)) l) % 1021) (omega arith)) in
+    number-digits (suc l) g xs i ∙ (ap (λ z. z % 1021) (digits-first (digit xs g i) l) ∙
+    ap (λ z. (getD xs z 0 * 640 ^ l + digits (λ x. digit xs g i (suc x)) l) % 1021) (omega arith)) in
     let d : getD xs i 0 * p % 1021 ≡ getD xs i 0 * 640 ^ l % 1021 = ap (λ z. getD xs i 0 * z % 1021) e ∙ mul-mod (getD xs i 0) (640 ^ l) 1021 in
     let s : digits (λ x. digit xs g i (suc x)) l ≡ digits (digit xs g (i + g)) l =
-        digits-ext l (λ x. digit xs g i (suc x)) (digit xs g (i + g))
-        (λ x h. ap (λ z. getD xs z 0) (let w : i + suc x * g ≡ i + g + x * g = omega (arith, suc-mul x g) in w)) in
+    digits-ext l (λ x. digit xs g i (suc x)) (digit xs g (i + g))
+    (λ x h. ap (λ z. getD xs z 0) (let w : i + suc x * g ≡ i + g + x * g = omega (arith, suc-mul x g) in w)) in
     out-in (getD xs i 0 * 640 ^ l) (digits (λ x. digit xs g i (suc x)) l) (getD xs (i + g + l * g) 0) (tuple-number (suc l) g xs i) (getD xs i 0 * p % 1021) n d
     ∙ (ap (λ z. (z * 640 + getD xs (i + g + l * g) 0) % 1021) s ∙ sym (number-digits (suc l) g xs (i + g)))
 

@@ -36,9 +36,12 @@ continuous-necessary a t i j d km w =
     let s : ℕ = r .0 in
     let sl : s + l ≤ a .m = r .1 in
     let l0 : 0 < l = share-some (a .m) (a .k) km in
-    let one : (l - 1) * 1 ≡ l - 1 = mul-one (l - 1) in
-    (s, omega arith, tuple-at l 1 (a .codes) t i j s (omega arith) (omega arith)
-        (λ x lt. ap (λ z. same (a .codes) t i j (s + z)) (mul-one x) ∙ r .2 x lt))
+    let one : (l - 1) * 1 ≡ l - 1 = mul-one (l - 1) in (
+      s,
+      omega arith,
+      tuple-at l 1 (a .codes) t i j s (omega arith) (omega arith)
+          (λ x lt. ap (λ z. same (a .codes) t i j (s + z)) (mul-one x) ∙ r .2 x lt),
+    )
 
 pub gapped-necessary : Necessary (tuple-rule true) (tuple-reach true)
 gapped-necessary a t i j d km w =
@@ -54,7 +57,10 @@ gapped-necessary a t i j d km w =
     let ll : l - 1 < l = omega arith in
     let sg : s < suc (a .k) = omega arith in
     let far : (l - 1) * suc (a .k) + s < a .m = omega (arith, digits-lt ll sg, share-fits (a .m) (a .k)) in
-    let far′ : (l - 1) * g + s < a .m = subst (λ (z : ℕ). (l - 1) * z + s < a .m) (sym (add-one (a .k))) far in
-    (s, sk, tuple-at l g (a .codes) t i j s (omega arith) (omega arith)
-        (λ x lt. ap (λ z. same (a .codes) t i j z) (add-comm s (x * g)) ∙
-            (ap (λ z. same (a .codes) t i j (x * z + s)) (add-one (a .k)) ∙ r .2 x lt)))
+    let far′ : (l - 1) * g + s < a .m = subst (λ (z : ℕ). (l - 1) * z + s < a .m) (sym (add-one (a .k))) far in (
+      s,
+      sk,
+      tuple-at l g (a .codes) t i j s (omega arith) (omega arith)
+          (λ x lt. ap (λ z. same (a .codes) t i j z) (add-comm s (x * g)) ∙
+          (ap (λ z. same (a .codes) t i j (x * z + s)) (add-one (a .k)) ∙ r .2 x lt)),
+    )

@@ -21,13 +21,13 @@ filling-none l g xs a = record { keeps = refl; numbers = λ x h. let z : ⊥ = o
 pub filling-more : (l g : ℕ) (xs b a a′ : List ℕ) (i v : ℕ) → Filling l g xs b a i → i < length b → v ≡ tuple-number l g xs i → a′ ≡ set a i v → Filling l g xs b a′ (i + 1)
 filling-more l g xs b a a′ i v m lt ev ea =
     let ia : i < length a = omega (arith, m .keeps) in
-    record
-    { keeps = ap length ea ∙ length-set a i v ∙ m .keeps
-    ; numbers = λ k h.
-        below-more (λ k. getD a′ k 0 ≡ tuple-number l g xs k) i
-        (λ k h. let ne : k ≢ i = omega arith in ap (λ z. getD z k 0) ea ∙ (getD-set-other a i k v 0 ne ∙ m .numbers k h))
-        (ap (λ z. getD z i 0) ea ∙ (getD-set-same a i v 0 ia ∙ ev)) k h
-    ; rest = λ k h. let ne : k ≢ i = omega arith in ap (λ z. getD z k 0) ea ∙ (getD-set-other a i k v 0 ne ∙ m .rest k (omega arith))
+    record {
+      keeps = ap length ea ∙ length-set a i v ∙ m .keeps;
+      numbers = λ k h.
+          below-more (λ k. getD a′ k 0 ≡ tuple-number l g xs k) i
+          (λ k h. let ne : k ≢ i = omega arith in ap (λ z. getD z k 0) ea ∙ (getD-set-other a i k v 0 ne ∙ m .numbers k h))
+          (ap (λ z. getD z i 0) ea ∙ (getD-set-same a i v 0 ia ∙ ev)) k h;
+      rest = λ k h. let ne : k ≢ i = omega arith in ap (λ z. getD z k 0) ea ∙ (getD-set-other a i k v 0 ne ∙ m .rest k (omega arith));
     }
 
 pub filling-done : (l g : ℕ) (xs b a : List ℕ) (i : ℕ) → i ≡ starts l g (length xs) → Filling l g xs b a i → Numbered l g xs b a

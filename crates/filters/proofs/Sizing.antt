@@ -77,7 +77,7 @@ pub chained-at : (w : Bool) (codes : List ℕ) (q m k l g s : ℕ) (xs heads lin
     xs ≡ take q codes → l ≡ share m k → g ≡ gap w s → s ≡ k → Chained (tuple-number l g xs) (starts l g (length xs)) heads links
 chained-at w codes q m k l g s xs heads links wide long head link ex el eg es =
     let base : Chained (tuple-number (share m k) (gap w k) (take q codes)) (starts (share m k) (gap w k) (length (take q codes))) heads links =
-        record { wide = wide; long = long; head = head; link = link } in
+    record { wide = wide; long = long; head = head; link = link } in
     subst (λ (z : List ℕ). Chained (tuple-number l g z) (starts l g (length z)) heads links) (sym ex)
     (subst (λ (y : ℕ). Chained (tuple-number l y (take q codes)) (starts l y (length (take q codes))) heads links) (sym (eg ∙ ap (gap w) es))
     (subst (λ (y : ℕ). Chained (tuple-number y (gap w k) (take q codes)) (starts y (gap w k) (length (take q codes))) heads links) (sym el) base))

@@ -28,7 +28,7 @@ bit b = cond b 1 0
 pub same-number : (l g : ℕ) (xs ys : List ℕ) (i j : ℕ) → every (same-digit g xs ys i j) l ≡ true → tuple-number l g xs i ≡ tuple-number l g ys j
 same-number l g xs ys i j e =
     number-digits l g xs i ∙ (ap (λ z. z % 1021) (digits-ext l (digit xs g i) (digit ys g j)
-        (λ x h. eqb-true _ _ (decides-every (same-digit g xs ys i j) l .0 e x h))) ∙ sym (number-digits l g ys j))
+    (λ x h. eqb-true _ _ (decides-every (same-digit g xs ys i j) l .0 e x h))) ∙ sym (number-digits l g ys j))
 
 -- every place that passes has the number h, and is a start
 abbrev pub Found : (ℕ → ℕ) → (ℕ → Bool) → ℕ → ℕ → Type 0
@@ -67,14 +67,14 @@ passed-at e p i zero h f s = let z : ⊥ = omega arith in absurd z
 passed-at e p i (suc n) h f s =
     ⊎-elim
     (λ (y : i ≡ n).
-        let a = passed-ext p e n (λ x l. s x (let ne : x ≢ i = omega arith in ne)) in
-        let b : bit (e n) ≡ 0 = ap bit (subst (λ (z : ℕ). e z ≡ false) y f) in
-        let c : bit (p i) ≡ bit (p n) = ap (λ z. bit (p z)) y in
-        omega arith)
+    let a = passed-ext p e n (λ x l. s x (let ne : x ≢ i = omega arith in ne)) in
+    let b : bit (e n) ≡ 0 = ap bit (subst (λ (z : ℕ). e z ≡ false) y f) in
+    let c : bit (p i) ≡ bit (p n) = ap (λ z. bit (p z)) y in
+    omega arith)
     (λ (y : i ≡ n → ⊥).
-        let a = passed-at e p i n (omega arith) f s in
-        let b : bit (p n) ≡ bit (e n) = ap bit (s n (λ z. y (sym z))) in
-        omega arith)
+    let a = passed-at e p i n (omega arith) f s in
+    let b : bit (p n) ≡ bit (e n) = ap bit (s n (λ z. y (sym z))) in
+    omega arith)
     (cases-eq i n)
 
 -- the places from `at` on are done
@@ -86,14 +86,14 @@ pub skips : (f : ℕ → ℕ) (p : ℕ → Bool) (h n b : ℕ) → Found f p h n
 skips f p h n b k x =
     ⊎-elim
     (λ (y : p x ≡ true).
-        ⊎-elim
-        (λ (w : x < b).
-            let v = latest-last f h b x w (k x y .1) in
-            and-left (leb (latest f h b) x) (p x) (lt-leb _ _ v) ∙ sym (and-left (leb b x) (p x) (lt-leb _ _ w)))
-        (λ (w : b ≤ x).
-            let v = latest-le f h b in
-            ap (λ z. z && p x) (le-leb (latest f h b) x (omega arith) ∙ sym (le-leb b x w)))
-        (cases-lt x b))
+    ⊎-elim
+    (λ (w : x < b).
+    let v = latest-last f h b x w (k x y .1) in
+    and-left (leb (latest f h b) x) (p x) (lt-leb _ _ v) ∙ sym (and-left (leb b x) (p x) (lt-leb _ _ w)))
+    (λ (w : b ≤ x).
+    let v = latest-le f h b in
+    ap (λ z. z && p x) (le-leb (latest f h b) x (omega arith) ∙ sym (le-leb b x w)))
+    (cases-lt x b))
     (λ (y : p x ≡ false). and-right (leb (latest f h b) x) (p x) y ∙ sym (and-right (leb b x) (p x) y))
     (cases-bool (p x))
 
@@ -114,14 +114,14 @@ late-none f p h n x k =
 pub walk-begins : (f : ℕ → ℕ) (p : ℕ → Bool) (h q n : ℕ) (b : List ℕ) (at : ℕ) → Found f p h n → ((x : ℕ) → x < q → getD b x 0 ≡ 0) → at ≡ latest f h n → Walk f p h q n b b at 0
 walk-begins f p h q n b at k blank e =
     let le = latest-le f h n in
-    let w : Walk f p h q n b b (latest f h n) 0 = record
-        { low = le
-        ; stays = latest-stays f h n
-        ; keeps = refl
-        ; marks = λ x l. blank x l ∙ ap bit (sym (late-none f p h n x k))
-        ; rest = λ x l. refl
-        ; count = sym (passed-none (late p (latest f h n)) q (λ x l. late-none f p h n x k))
-        } in
+    let w : Walk f p h q n b b (latest f h n) 0 = record {
+      low = le;
+      stays = latest-stays f h n;
+      keeps = refl;
+      marks = λ x l. blank x l ∙ ap bit (sym (late-none f p h n x k));
+      rest = λ x l. refl;
+      count = sym (passed-none (late p (latest f h n)) q (λ x l. late-none f p h n x k));
+    } in
     subst (λ (z : ℕ). Walk f p h q n b b z 0) (sym e) w
 
 -- a turn of the walk
@@ -135,21 +135,21 @@ walk-on f p h q n b a a′ i c c′ k nq w el ei eo ec =
     let before : late p (suc i) i ≡ false = and-left (leb (suc i) i) (p i) (lt-leb (suc i) i (omega arith)) in
     let now : late p (latest f h i) i ≡ p i = ap (λ z. z && p i) (le-leb (latest f h i) i le) in
     let other : (x : ℕ) → x ≢ i → late p (latest f h i) x ≡ late p (suc i) x =
-        λ x ne. skips f p h n i k x ∙
-            ⊎-elim (λ (y : x < i). ap (λ z. z && p x) (lt-leb i x y ∙ sym (lt-leb (suc i) x (omega arith))))
-            (λ (y : i ≤ x). ap (λ z. z && p x) (le-leb i x y ∙ sym (le-leb (suc i) x (omega arith))))
-            (cases-lt x i) in
+    λ x ne. skips f p h n i k x ∙
+    ⊎-elim (λ (y : x < i). ap (λ z. z && p x) (lt-leb i x y ∙ sym (lt-leb (suc i) x (omega arith))))
+    (λ (y : i ≤ x). ap (λ z. z && p x) (le-leb i x y ∙ sym (le-leb (suc i) x (omega arith))))
+    (cases-lt x i) in
     let one : bit (late p (latest f h i) i) ≡ bit (p i) = ap bit now in
-    record
-    { low = omega arith
-    ; stays = latest-stays f h i
-    ; keeps = el ∙ w .keeps
-    ; marks = λ x l.
-        ⊎-elim (λ (y : x ≡ i). ap (λ z. getD a′ z 0) y ∙ (ei ∙ (sym one ∙ ap (λ z. bit (late p (latest f h i) z)) (sym y))))
-        (λ (y : x ≡ i → ⊥). eo x y ∙ (w .marks x l ∙ ap bit (sym (other x y))))
-        (cases-eq x i)
-    ; rest = λ x l. let ne : x ≢ i = omega arith in eo x ne ∙ w .rest x l
-    ; count = let t = passed-at (late p (suc i)) (late p (latest f h i)) i q (omega arith) before other in omega (arith, w .count)
+    record {
+      low = omega arith;
+      stays = latest-stays f h i;
+      keeps = el ∙ w .keeps;
+      marks = λ x l.
+          ⊎-elim (λ (y : x ≡ i). ap (λ z. getD a′ z 0) y ∙ (ei ∙ (sym one ∙ ap (λ z. bit (late p (latest f h i) z)) (sym y))))
+          (λ (y : x ≡ i → ⊥). eo x y ∙ (w .marks x l ∙ ap bit (sym (other x y))))
+          (cases-eq x i);
+      rest = λ x l. let ne : x ≢ i = omega arith in eo x ne ∙ w .rest x l;
+      count = let t = passed-at (late p (suc i)) (late p (latest f h i)) i q (omega arith) before other in omega (arith, w .count);
     }
 
 pub walk-marks : (f : ℕ → ℕ) (p : ℕ → Bool) (h q n : ℕ) (b a a′ : List ℕ) (i c c′ : ℕ) → Found f p h n → n ≤ q → q ≤ length b →
@@ -175,33 +175,33 @@ walk-passes f p h q n b a a′ i c c′ k nq w e ea ec =
 pub walk-ends : (f : ℕ → ℕ) (p : ℕ → Bool) (h q n : ℕ) (b a : List ℕ) (at c : ℕ) → q ≤ length b → at ≡ 0 → Walk f p h q n b a at c → Marked p q b a c
 walk-ends f p h q n b a at c qb e w =
     let all : (x : ℕ) → late p at x ≡ p x = λ x. ap (λ z. z && p x) (le-leb at x (omega arith)) in
-    record
-    { room = qb
-    ; keeps = w .keeps
-    ; marks = λ x l. w .marks x l ∙ ap bit (all x)
-    ; rest = w .rest
-    ; count = w .count ∙ passed-ext (late p at) p q (λ x l. all x)
+    record {
+      room = qb;
+      keeps = w .keeps;
+      marks = λ x l. w .marks x l ∙ ap bit (all x);
+      rest = w .rest;
+      count = w .count ∙ passed-ext (late p at) p q (λ x l. all x);
     }
 
 -- a row that was cleared first
 pub after-clear : (p : ℕ → Bool) (q : ℕ) (b₀ b a : List ℕ) (r : ℕ) → Cleared q b₀ b → Marked p q b a r → Marked p q b₀ a r
-after-clear p q b₀ b a r c m = record
-    { room = omega (arith, m .room, c .keeps)
-    ; keeps = m .keeps ∙ c .keeps
-    ; marks = m .marks
-    ; rest = λ x l. m .rest x l ∙ c .rest x l
-    ; count = m .count
-    }
+after-clear p q b₀ b a r c m = record {
+  room = omega (arith, m .room, c .keeps);
+  keeps = m .keeps ∙ c .keeps;
+  marks = m .marks;
+  rest = λ x l. m .rest x l ∙ c .rest x l;
+  count = m .count;
+}
 
 -- a row with no place that passes
 pub only-clear : (p : ℕ → Bool) (q : ℕ) (b₀ b : List ℕ) → q ≤ length b₀ → ((x : ℕ) → p x ≡ false) → Cleared q b₀ b → Marked p q b₀ b 0
-only-clear p q b₀ b qb none c = record
-    { room = qb
-    ; keeps = c .keeps
-    ; marks = λ x l. c .blank x l ∙ ap bit (sym (none x))
-    ; rest = c .rest
-    ; count = sym (passed-none p q (λ x l. none x))
-    }
+only-clear p q b₀ b qb none c = record {
+  room = qb;
+  keeps = c .keeps;
+  marks = λ x l. c .blank x l ∙ ap bit (sym (none x));
+  rest = c .rest;
+  count = sym (passed-none p q (λ x l. none x));
+}
 
 pub tuple-outside : (l g : ℕ) (xs ys : List ℕ) (i j : ℕ) → length ys ≤ j + (l - 1) * g → same-tuple l g xs ys i j ≡ false
 tuple-outside l g xs ys i j h =
@@ -210,13 +210,13 @@ tuple-outside l g xs ys i j h =
 pub cleared-more : (i : ℕ) (b a : List ℕ) → Cleared i b a → i < length b → Cleared (i + 1) b (set a i 0)
 cleared-more i b a m lt =
     let ia : i < length a = omega (arith, m .keeps) in
-    record
-    { keeps = length-set a i 0 ∙ m .keeps
-    ; blank = λ k h.
-        below-more (λ k. getD (set a i 0) k 0 ≡ 0) i
-        (λ k h. let ne : k ≢ i = omega arith in getD-set-other a i k 0 0 ne ∙ m .blank k h)
-        (getD-set-same a i 0 0 ia) k h
-    ; rest = λ k h. let ne : k ≢ i = omega arith in getD-set-other a i k 0 0 ne ∙ m .rest k (omega arith)
+    record {
+      keeps = length-set a i 0 ∙ m .keeps;
+      blank = λ k h.
+          below-more (λ k. getD (set a i 0) k 0 ≡ 0) i
+          (λ k h. let ne : k ≢ i = omega arith in getD-set-other a i k 0 0 ne ∙ m .blank k h)
+          (getD-set-same a i 0 0 ia) k h;
+      rest = λ k h. let ne : k ≢ i = omega arith in getD-set-other a i k 0 0 ne ∙ m .rest k (omega arith);
     }
 
 -- where the chain leads from a place of the walk

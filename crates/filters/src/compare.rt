@@ -4,11 +4,9 @@ ghost use Prim.Native.Nat.{ℕ, _+_, _≤_};
 ghost use lib.Dec.{leb};
 ghost use lib.ListN.{length};
 ghost use Rattle.filters.specs.Matching.{compared, mismatches};
+use crate::held::LONGEST_WINDOW;
 use crate::refusal::Refusal;
 use trace::sample::Sample;
-
-/// The longest window that is compared.
-const LONGEST_WINDOW: usize = 512;
 
 /// How many of the m places i + t of the query and j + t of the trace do not agree, by the kind S.
 pub fn count_mismatches<S: Sample>(

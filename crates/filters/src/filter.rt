@@ -15,15 +15,23 @@ use crate::refusal::Refusal;
 /// and `clear` makes it stand for none: no query, no place passed, reach 0.
 pub trait Filter: Copy {
     ghost stands: { Self → Pattern };
+
     ghost rule: { Rule };
+
     ghost reaches: { Reach };
 
     law few: { (x : Self) → stands x .size ≤ 1024 };
+
     law short: { (x : Self) → stands x .span < 512 };
+
     law within: { (x : Self) → Within (stands x) };
+
     law inside: { Inside rule };
+
     law below: { Below reaches };
+
     law unasked: { reaches 0 0 ≡ 0 };
+
     law necessary: { Necessary rule reaches };
 
     /// Sets a question, in place of what was set. Refused, it changes nothing.

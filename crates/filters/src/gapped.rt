@@ -1,3 +1,4 @@
+//! The filter by tuples of codes k + 1 apart.
 ghost use mathlib.Core.Path.{_≡_};
 ghost use mathlib.Core.Bool.{Bool, true, false};
 ghost use mathlib.Core.List.{List};
@@ -6,11 +7,12 @@ ghost use lib.ListN.{length, getD, take};
 ghost use Rattle.filters.specs.Questions.{question};
 ghost use Rattle.filters.specs.Filters.{none, pattern-of, Stands-for};
 ghost use Rattle.filters.specs.Rules.{tuple-rule, tuple-reach};
-
-use crate::table::Table;
 use crate::filter::Filter;
 use crate::refusal::Refusal;
+use crate::table::Table;
 
+/// Passes a place where the l codes from there on, k + 1 apart, are the same in query and trace, l being m ÷ (k + 1)
+/// rounded down. Of the k + 1 such combs in a window, k mismatches leave one whole.
 #[derive(Clone, Copy)]
 pub struct Gapped {
     table: Table,
@@ -18,16 +20,21 @@ pub struct Gapped {
 }
 
 impl Gapped {
+    /// The filter with no question set.
     pub fn new() -> Self
         ensures { λ r. ⌜ Stands-for (tuple-rule true) (tuple-reach true) (pattern-of (tuple-rule true) (tuple-reach true) (question (r .table .held .codes) (r .table .held .q) (r .table .held .m) (r .table .held .k))) none ⌝ }
     {
-        Gapped { table: Table::new(true) }
+        Gapped {
+            table: Table::new(true),
+        }
     }
 }
 
 pub impl Filter for Gapped as GappedFilter {
     ghost stands = { λ x. pattern-of (tuple-rule true) (tuple-reach true) (question (x .table .held .codes) (x .table .held .q) (x .table .held .m) (x .table .held .k)) };
+
     ghost rule = { tuple-rule true };
+
     ghost reaches = { tuple-reach true };
 
     fn set(&mut self, codes: &[u16], m: usize, k: usize) -> Result<(), Refusal> {

@@ -5,15 +5,18 @@ ghost use Prim.Native.Nat.{ℕ, _+_, _-_, _*_, _<_, _≤_};
 ghost use lib.ListN.{length, getD};
 ghost use Rattle.filters.specs.Tuples.{tuple-number, starts, Sized};
 ghost use Rattle.filters.specs.Chains.{Chained};
-
+use crate::number::MODULUS;
 use crate::number::number_all;
+
+/// A query has at most so many places.
+const MOST_PLACES: usize = 1_024;
 
 /// For each number the last place that has it, and for each place the last one before it with its number, each as one more
 /// than the place, and 0 for none.
 #[derive(Clone, Copy)]
 pub struct Index {
-    pub(crate) heads: [u16; 1021],
-    pub(crate) links: [u16; 1024],
+    pub(crate) heads: [u16; MODULUS],
+    pub(crate) links: [u16; MOST_PLACES],
     ghost full: { length heads ≡ 1021 },
     ghost long: { length links ≡ 1024 },
 }
@@ -21,7 +24,10 @@ pub struct Index {
 impl Index {
     /// The index of no place.
     pub fn new() -> Self {
-        Index { heads: [0; 1021], links: [0; 1024] }
+        Index {
+            heads: [0; MODULUS],
+            links: [0; MOST_PLACES],
+        }
     }
 
     /// The index of the tuples of l codes, g apart.
@@ -29,7 +35,7 @@ impl Index {
         requires { ⌜ Sized l g (length (now codes)) ⌝ ∗ ⌜ length (now codes) ≤ 1024 ⌝ }
         ensures { λ r. ⌜ Chained (tuple-number l g (now (codes .entry))) (starts l g (length (now (codes .entry)))) (r .heads) (r .links) ⌝ }
     {
-        let mut numbers = [0u16; 1024];
+        let mut numbers = [0u16; MOST_PLACES];
         number_all(codes, l, g, &mut numbers);
         chain(&numbers, codes.len() - (l - 1) * g)
     }
@@ -40,8 +46,8 @@ fn chain(numbers: &[u16], n: usize) -> Index
     requires { ⌜ n ≤ length (now numbers) ⌝ ∗ ⌜ n ≤ 1024 ⌝ ∗ ⌜ ((i : ℕ) → i < n → getD (now numbers) i 0 < 1021) ⌝ }
     ensures { λ r. ⌜ Chained (λ i. getD (now (numbers .entry)) i 0) n (r .heads) (r .links) ⌝ }
 {
-    let mut heads = [0u16; 1021];
-    let mut links = [0u16; 1024];
+    let mut heads = [0u16; MODULUS];
+    let mut links = [0u16; MOST_PLACES];
     for i in 0..n {
         let h = numbers[i] as usize;
         links[i] = heads[h];

@@ -1,3 +1,4 @@
+//! Two filters together.
 ghost use mathlib.Core.Path.{_≡_};
 ghost use mathlib.Core.Bool.{Bool, true, false, cond};
 ghost use mathlib.Core.List.{List};
@@ -6,11 +7,11 @@ ghost use lib.ListN.{length, getD, take};
 ghost use Rattle.std.specs.declared.result.Result.the-variants.{Ok, Err};
 ghost use Rattle.filters.specs.Questions.{near, near-pattern, beside, ahead, behind};
 ghost use Rattle.filters.specs.Filters.{Stands-for, Pattern, none};
-
 use crate::filter::Filter;
 use crate::refusal::Refusal;
 
-/// Passes a place if the first does and the second passes one near it.
+/// Passes a place if the first does and the second passes one near it on the diagonal: as near as both lie to the
+/// start of one match.
 #[derive(Clone, Copy)]
 pub struct Near<A, B> {
     first: A,
@@ -30,7 +31,9 @@ impl<A: Filter, B: Filter> Near<A, B> {
 
 pub impl<A: Filter, B: Filter> Filter for Near<A, B> as NearFilter {
     ghost stands = { λ x. near-pattern (A·Filter .stands (x .first)) (B·Filter .stands (x .second)) };
+
     ghost rule = { near (A·Filter .rule) (A·Filter .reaches) (B·Filter .rule) (B·Filter .reaches) };
+
     ghost reaches = { A·Filter .reaches };
 
     fn set(&mut self, codes: &[u16], m: usize, k: usize) -> Result<(), Refusal> {
@@ -74,7 +77,14 @@ pub impl<A: Filter, B: Filter> Filter for Near<A, B> as NearFilter {
 }
 
 /// Whether a place that the first passes, or not, by its mark, is passed by both.
-fn stays<A: Filter, B: Filter>(first: &A, second: &B, trace: &[u16], i: usize, j: usize, mark: u8) -> bool
+fn stays<A: Filter, B: Filter>(
+    first: &A,
+    second: &B,
+    trace: &[u16],
+    i: usize,
+    j: usize,
+    mark: u8,
+) -> bool
     requires { ⌜ mark ≡ cond (A·Filter .stands (now first) .marks (now trace) i j) 1 0 ⌝ }
     ensures { λ r. ⌜ r ≡ near-pattern (A·Filter .stands (now (first .entry))) (B·Filter .stands (now (second .entry))) .marks (now (trace .entry)) i j ⌝ }
 {
@@ -82,13 +92,20 @@ fn stays<A: Filter, B: Filter>(first: &A, second: &B, trace: &[u16], i: usize, j
 }
 
 /// Whether the second passes a place near (i, j), which the first passes.
-fn passes_beside<A: Filter, B: Filter>(first: &A, second: &B, trace: &[u16], i: usize, j: usize) -> bool
+fn passes_beside<A: Filter, B: Filter>(
+    first: &A,
+    second: &B,
+    trace: &[u16],
+    i: usize,
+    j: usize,
+) -> bool
     requires { ⌜ A·Filter .stands (now first) .marks (now trace) i j ≡ true ⌝ }
     ensures { λ r. ⌜ r ≡ near-pattern (A·Filter .stands (now (first .entry))) (B·Filter .stands (now (second .entry))) .marks (now (trace .entry)) i j ⌝ }
 {
     passes_ahead(second, trace, i, j) || passes_behind(second, first.reach(), trace, i, j)
 }
 
+/// Whether the second passes a place from (i, j) up to its own reach ahead.
 fn passes_ahead<B: Filter>(second: &B, trace: &[u16], i: usize, j: usize) -> bool
     requires { ⌜ (i < 1024) × (j < length (now trace)) ⌝ }
     ensures { λ r. ⌜ r ≡ ahead (B·Filter .stands (now (second .entry)) .marks (now (trace .entry))) (B·Filter .stands (now (second .entry)) .span) i j ⌝ }
@@ -102,6 +119,7 @@ fn passes_ahead<B: Filter>(second: &B, trace: &[u16], i: usize, j: usize) -> boo
     false
 }
 
+/// Whether the second passes a place from (i, j) up to a reach behind.
 fn passes_behind<B: Filter>(second: &B, reach: usize, trace: &[u16], i: usize, j: usize) -> bool
     requires { ⌜ reach < 512 ⌝ }
     ensures { λ r. ⌜ r ≡ behind (B·Filter .stands (now (second .entry)) .marks (now (trace .entry))) reach i j ⌝ }

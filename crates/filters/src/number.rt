@@ -5,16 +5,26 @@ ghost use Prim.Native.Nat.{ℕ, _+_, _-_, _*_, _%_, _^_, _<_, _≤_};
 ghost use lib.ListN.{length, getD};
 ghost use Rattle.filters.specs.Tuples.{tuple-number, numbering, starts, Numbered, Sized};
 ghost use Rattle.std.specs.declared.result.Result.the-variants.{Ok, Err};
-
 use crate::power::power;
 use crate::refusal::Refusal;
+
+/// The longest tuple, and the widest gap between its codes.
+const LONGEST_TUPLE: usize = 512;
+
+const WIDEST_GAP: usize = 16;
+/// Every kind has at most this many codes, so codes are digits to this base.
+const BASE: u32 = 640;
+/// Tuple numbers are kept below this prime, so that a table of heads by number stays small.
+pub(crate) const MODULUS: usize = 1_021;
+
+const PRIME: u32 = MODULUS as u32;
 
 /// Writes the number of each tuple into the front of `out`, and answers how many there are.
 pub fn tuple_numbers(codes: &[u16], l: usize, g: usize, out: &mut [u16]) -> Result<usize, Refusal>
     ensures answer { λ r. ⌜ r ≡ numbering l g (length (now (codes .entry))) (length (now (out .entry))) ⌝ }
     ensures written { λ r. ⌜ elim r [ Ok _ ↦ Numbered l g (now (codes .entry)) (now (out .entry)) (now (out .exit)) | Err _ ↦ now (out .exit) ≡ now (out .entry) ] ⌝ }
 {
-    if l == 0 || l > 512 || g == 0 || g > 16 {
+    if l == 0 || l > LONGEST_TUPLE || g == 0 || g > WIDEST_GAP {
         return Err(Refusal::NoTuples);
     }
     let span = (l - 1) * g;
@@ -48,7 +58,7 @@ pub(crate) fn number_at(codes: &[u16], i: usize, l: usize, g: usize) -> u16
 {
     let mut v: u32 = 0;
     for x in 0..l {
-        v = (v * 640 + codes[i + x * g] as u32) % 1021;
+        v = (v * BASE + codes[i + x * g] as u32) % PRIME;
     }
     v as u16
 }
@@ -58,6 +68,6 @@ fn rolled(number: u16, first: u16, power: u16, last: u16) -> u16
     requires { ⌜ number < 1021 ⌝ ∗ ⌜ power < 1021 ⌝ }
     ensures { λ r. ⌜ r ≡ ((number + 1021 - first * power % 1021) * 640 + last) % 1021 ⌝ }
 {
-    let gone = first as u32 * power as u32 % 1021;
-    (((number as u32 + 1021 - gone) * 640 + last as u32) % 1021) as u16
+    let gone = first as u32 * power as u32 % PRIME;
+    (((number as u32 + PRIME - gone) * BASE + last as u32) % PRIME) as u16
 }

@@ -1,3 +1,4 @@
+//! The filter that passes every place.
 ghost use mathlib.Core.Path.{_≡_};
 ghost use mathlib.Core.Bool.{Bool, true, false, cond};
 ghost use mathlib.Core.List.{List};
@@ -6,7 +7,6 @@ ghost use lib.ListN.{length, getD, take};
 ghost use Rattle.std.specs.declared.result.Result.the-variants.{Ok, Err};
 ghost use Rattle.filters.specs.Questions.{question, open-rule, open-reach};
 ghost use Rattle.filters.specs.Filters.{Stands-for, pattern-of, none};
-
 use crate::filter::Filter;
 use crate::held::Held;
 use crate::refusal::Refusal;
@@ -18,6 +18,7 @@ pub struct PassAll {
 }
 
 impl PassAll {
+    /// The filter with no question set.
     pub fn new() -> Self
         ensures { λ r. ⌜ Stands-for open-rule open-reach (pattern-of open-rule open-reach (question (r .held .codes) (r .held .q) (r .held .m) (r .held .k))) none ⌝ }
     {
@@ -27,7 +28,9 @@ impl PassAll {
 
 pub impl Filter for PassAll as PassAllFilter {
     ghost stands = { λ x. pattern-of open-rule open-reach (question (x .held .codes) (x .held .q) (x .held .m) (x .held .k)) };
+
     ghost rule = { open-rule };
+
     ghost reaches = { open-reach };
 
     fn set(&mut self, codes: &[u16], m: usize, k: usize) -> Result<(), Refusal> {

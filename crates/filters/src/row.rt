@@ -8,12 +8,19 @@ ghost use Rattle.filters.specs.Questions.{every};
 ghost use Rattle.filters.specs.Filters.{Marked};
 ghost use Rattle.filters.specs.Tuples.{tuple-number, starts, Sized, same-digit, same-tuple};
 ghost use Rattle.filters.specs.Chains.{Chained, Cleared};
-
 use crate::index::Index;
 use crate::number::number_at;
 
 /// Marks the places of the query that have the tuple of the trace at j, and answers how many they are.
-pub(crate) fn mark_row(index: &Index, codes: &[u16], l: usize, g: usize, trace: &[u16], j: usize, marks: &mut [u8]) -> usize
+pub(crate) fn mark_row(
+    index: &Index,
+    codes: &[u16],
+    l: usize,
+    g: usize,
+    trace: &[u16],
+    j: usize,
+    marks: &mut [u8],
+) -> usize
     requires sized { ⌜ Sized l g (length (now codes)) ⌝ }
     requires few { ⌜ length (now codes) ≤ 1024 ⌝ }
     requires room { ⌜ length (now codes) ≤ length (now marks) ⌝ }
@@ -39,7 +46,15 @@ fn clear(marks: &mut [u8], n: usize)
 }
 
 /// Marks the places of the query that have the tuple of the trace at j, where no place is marked.
-fn mark_chain(index: &Index, codes: &[u16], l: usize, g: usize, trace: &[u16], j: usize, marks: &mut [u8]) -> usize
+fn mark_chain(
+    index: &Index,
+    codes: &[u16],
+    l: usize,
+    g: usize,
+    trace: &[u16],
+    j: usize,
+    marks: &mut [u8],
+) -> usize
     requires sized { ⌜ Sized l g (length (now codes)) ⌝ }
     requires few { ⌜ length (now codes) ≤ 1024 ⌝ }
     requires room { ⌜ length (now codes) ≤ length (now marks) ⌝ }

@@ -9,12 +9,11 @@ ghost use Rattle.filters.specs.Chains.{Heads, Links};
 ghost use Rattle.filters.specs.Rules.{gap, tuple-rule, tuple-reach, numbers, tuples};
 ghost use Rattle.filters.specs.Filters.{verdict, none, pattern-of, Rowed};
 ghost use Rattle.std.specs.declared.result.Result.the-variants.{Ok, Err};
-
+use crate::held::Held;
 use crate::index::Index;
+use crate::refusal::Refusal;
 use crate::row::alike;
 use crate::row::mark_row;
-use crate::held::Held;
-use crate::refusal::Refusal;
 
 /// A question and the index of its tuples: of codes next to each other, or, if `wide`, one more apart than codes may differ.
 #[derive(Clone, Copy)]
@@ -27,13 +26,19 @@ pub struct Table {
 }
 
 impl Table {
+    /// No question.
     pub fn new(wide: bool) -> Self
         ensures asked { λ r. ⌜ question (r .held .codes) (r .held .q) (r .held .m) (r .held .k) ≡ none ⌝ }
         ensures kind { λ r. ⌜ r .wide ≡ wide ⌝ }
     {
-        Table { held: Held::new(), wide, index: Index::new() }
+        Table {
+            held: Held::new(),
+            wide,
+            index: Index::new(),
+        }
     }
 
+    /// The table of a question.
     pub fn of(wide: bool, codes: &[u16], m: usize, k: usize) -> Result<Self, Refusal>
         ensures { λ r. ⌜ elim r [ Ok t ↦ (Ok tt ≡ verdict (length (now (codes .entry))) m k) × (question (t .held .codes) (t .held .q) (t .held .m) (t .held .k) ≡ record { codes = now (codes .entry); m = m; k = k }) × (t .wide ≡ wide) | Err e ↦ Err e ≡ verdict (length (now (codes .entry))) m k ] ⌝ }
     {
@@ -43,12 +48,14 @@ impl Table {
         Ok(Table { held, wide, index })
     }
 
+    /// How many codes the query has.
     pub fn len(&self) -> usize
         ensures { λ r. ⌜ r ≡ length (take (now (self .entry) .held .q) (now (self .entry) .held .codes)) ⌝ }
     {
         self.held.len()
     }
 
+    /// Whether query and trace have the same tuple at i and at j.
     pub fn passes(&self, trace: &[u16], i: usize, j: usize) -> bool
         ensures { λ r. ⌜ r ≡ tuple-rule (now (self .entry) .wide) (question (now (self .entry) .held .codes) (now (self .entry) .held .q) (now (self .entry) .held .m) (now (self .entry) .held .k)) (now (trace .entry)) i j ⌝ }
     {
@@ -65,6 +72,7 @@ impl Table {
         alike(codes, trace, g, i, j, l)
     }
 
+    /// Marks the query places that have the tuple of the trace at j.
     pub fn row(&self, trace: &[u16], j: usize, marks: &mut [u8]) -> Result<usize, Refusal>
         ensures { λ r. ⌜ Rowed (pattern-of (tuple-rule (now (self .entry) .wide)) (tuple-reach (now (self .entry) .wide)) (question (now (self .entry) .held .codes) (now (self .entry) .held .q) (now (self .entry) .held .m) (now (self .entry) .held .k))) (now (trace .entry)) j (now (marks .entry)) (now (marks .exit)) r ⌝ }
     {
@@ -75,7 +83,15 @@ impl Table {
         if codes.len() == 0 {
             return Ok(0);
         }
-        Ok(mark_row(&self.index, codes, self.held.share(), apart(self.wide, self.held.slack()), trace, j, marks))
+        Ok(mark_row(
+            &self.index,
+            codes,
+            self.held.share(),
+            apart(self.wide, self.held.slack()),
+            trace,
+            j,
+            marks,
+        ))
     }
 }
 

@@ -18,10 +18,10 @@ rolled-requires c κs =
 pub loop-i-again : need.loop-i-again
 loop-i-again c =
     let lt : c .loop-i .i < length (c .args .out .now) = omega arith in
-    elim (c .if-i-g .came)
-    [ then-i-g w ↦ filling-more (c .args .l) (c .args .g) (c .args .codes .now) (c .args .out .now) (c .loop-i .out) (c .if-i-g .out) (c .loop-i .i) (w .number-at .result) (c .loop-i .inv) lt (w .number-at .ensures .0) (w .out-is)
-    | else-i-g w ↦ filling-more (c .args .l) (c .args .g) (c .args .codes .now) (c .args .out .now) (c .loop-i .out) (c .if-i-g .out) (c .loop-i .i) (w .rolled .result) (c .loop-i .inv) lt
-        (w .rolled .ensures ∙ rolls-to (c .args .l) (c .args .g) (c .args .codes .now) (c .loop-i .i) (getD (c .loop-i .out) (c .loop-i .i - c .args .g) 0) (c .power-p .result) (c .pre .0 .some) (w .if-i-g .left)
-            (c .loop-i .inv .numbers (c .loop-i .i - c .args .g) (omega (arith, c .pre .0 .apart, w .if-i-g .left))) (c .power-p .ensures))
-        (w .out-is)
+    elim (c .if-i-g .came) [
+      | then-i-g w ↦ filling-more (c .args .l) (c .args .g) (c .args .codes .now) (c .args .out .now) (c .loop-i .out) (c .if-i-g .out) (c .loop-i .i) (w .number-at .result) (c .loop-i .inv) lt (w .number-at .ensures .0) (w .out-is)
+      | else-i-g w ↦ filling-more (c .args .l) (c .args .g) (c .args .codes .now) (c .args .out .now) (c .loop-i .out) (c .if-i-g .out) (c .loop-i .i) (w .rolled .result) (c .loop-i .inv) lt
+          (w .rolled .ensures ∙ rolls-to (c .args .l) (c .args .g) (c .args .codes .now) (c .loop-i .i) (getD (c .loop-i .out) (c .loop-i .i - c .args .g) 0) (c .power-p .result) (c .pre .0 .some) (w .if-i-g .left)
+          (c .loop-i .inv .numbers (c .loop-i .i - c .args .g) (omega (arith, c .pre .0 .apart, w .if-i-g .left))) (c .power-p .ensures))
+          (w .out-is)
     ]

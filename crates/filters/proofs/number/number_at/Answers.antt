@@ -20,6 +20,8 @@ loop-x-again c =
 
 pub returns : need.returns
 returns c =
-    let e : c .loop-x .x ≡ c .args .l = omega arith in
-    (c .loop-x .inv .1 ∙ (ap (λ (z : ℕ). digits (digit (c .args .codes .now) (c .args .g) (c .args .i)) z % 1021) e ∙
-    sym (number-digits (c .args .l) (c .args .g) (c .args .codes .now) (c .args .i))), omega (arith, c .loop-x .inv .0))
+    let e : c .loop-x .x ≡ c .args .l = omega arith in (
+      c .loop-x .inv .1 ∙ (ap (λ (z : ℕ). digits (digit (c .args .codes .now) (c .args .g) (c .args .i)) z % 1021) e ∙
+          sym (number-digits (c .args .l) (c .args .g) (c .args .codes .now) (c .args .i))),
+      omega (arith, c .loop-x .inv .0),
+    )

@@ -21,15 +21,15 @@ loop-at-less c =
 
 pub loop-at-again : need.loop-at-again
 loop-at-again c =
-    elim (c .if-alike .came)
-    [ then-alike w ↦
-        tuple-marks (c .args .l) (c .args .g) (c .args .codes .now) (c .args .trace .now) (c .args .j) (c .args .marks .now) (c .loop-at .marks) (c .if-alike .marks)
-        (c .args .index .now .heads) (c .args .index .now .links) (c .loop-at .at) (c .loop-at .n) (c .if-alike .n) (c .pre .chained) (c .pre .room) (c .loop-at .inv) (c .loop-at-test .taken)
-        (c .pre .inside) (w .if-alike .ensures tt) (w .marks-is) (w .n-is)
-    | else-alike w ↦
-        tuple-passes (c .args .l) (c .args .g) (c .args .codes .now) (c .args .trace .now) (c .args .j) (c .args .marks .now) (c .loop-at .marks) (c .if-alike .marks)
-        (c .args .index .now .heads) (c .args .index .now .links) (c .loop-at .at) (c .loop-at .n) (c .if-alike .n) (c .pre .chained) (c .loop-at .inv) (c .loop-at-test .taken)
-        (c .pre .inside) (w .if-alike .ensures tt) (w .marks-is) (w .n-is)
+    elim (c .if-alike .came) [
+      | then-alike w ↦
+          tuple-marks (c .args .l) (c .args .g) (c .args .codes .now) (c .args .trace .now) (c .args .j) (c .args .marks .now) (c .loop-at .marks) (c .if-alike .marks)
+          (c .args .index .now .heads) (c .args .index .now .links) (c .loop-at .at) (c .loop-at .n) (c .if-alike .n) (c .pre .chained) (c .pre .room) (c .loop-at .inv) (c .loop-at-test .taken)
+          (c .pre .inside) (w .if-alike .ensures tt) (w .marks-is) (w .n-is)
+      | else-alike w ↦
+          tuple-passes (c .args .l) (c .args .g) (c .args .codes .now) (c .args .trace .now) (c .args .j) (c .args .marks .now) (c .loop-at .marks) (c .if-alike .marks)
+          (c .args .index .now .heads) (c .args .index .now .links) (c .loop-at .at) (c .loop-at .n) (c .if-alike .n) (c .pre .chained) (c .loop-at .inv) (c .loop-at-test .taken)
+          (c .pre .inside) (w .if-alike .ensures tt) (w .marks-is) (w .n-is)
     ]
 
 pub returns : need.returns

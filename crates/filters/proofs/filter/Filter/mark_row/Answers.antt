@@ -15,9 +15,9 @@ add-n g c =
 pub loop-i-again : need.loop-i-again
 loop-i-again g c =
     let p : ℕ → Bool = λ i. g .Self·Filter .stands (c .args .self .now) .marks (c .args .trace .now) i (c .args .j) in
-    elim (c .if-passes .came)
-    [ then-passes w ↦ marked-more p (c .loop-i .i) (c .args .marks .now) (c .loop-i .marks) (c .if-passes .marks) (c .loop-i .n) (c .if-passes .n) true
-        (c .loop-i .inv) (omega arith) (sym (w .if-passes .ensures tt)) (w .marks-is) (omega (arith, w .n-is))
-    | else-passes w ↦ marked-more p (c .loop-i .i) (c .args .marks .now) (c .loop-i .marks) (c .if-passes .marks) (c .loop-i .n) (c .if-passes .n) false
-        (c .loop-i .inv) (omega arith) (sym (w .if-passes .ensures tt)) (w .marks-is) (omega (arith, w .n-is))
+    elim (c .if-passes .came) [
+      | then-passes w ↦ marked-more p (c .loop-i .i) (c .args .marks .now) (c .loop-i .marks) (c .if-passes .marks) (c .loop-i .n) (c .if-passes .n) true
+          (c .loop-i .inv) (omega arith) (sym (w .if-passes .ensures tt)) (w .marks-is) (omega (arith, w .n-is))
+      | else-passes w ↦ marked-more p (c .loop-i .i) (c .args .marks .now) (c .loop-i .marks) (c .if-passes .marks) (c .loop-i .n) (c .if-passes .n) false
+          (c .loop-i .inv) (omega arith) (sym (w .if-passes .ensures tt)) (w .marks-is) (omega (arith, w .n-is))
     ]

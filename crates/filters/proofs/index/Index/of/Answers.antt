@@ -10,10 +10,15 @@ use Rattle.filters.proofs.index.Index.of.Needs as need
 
 pub chain-requires : need.chain-requires
 chain-requires c κs =
-    let k : length (c .number-all .last .out) ≡ 1024 = c .number-all .ensures .keeps in
-    (omega arith, (omega arith, λ i h.
-        let e = c .number-all .ensures .numbers i h in
-        let s = number-small (c .args .l) (c .args .g) (c .args .codes .now) i in omega arith))
+    let k : length (c .number-all .last .out) ≡ 1024 = c .number-all .ensures .keeps in (
+      omega arith,
+      (
+        omega arith,
+        λ i h.
+            let e = c .number-all .ensures .numbers i h in
+            let s = number-small (c .args .l) (c .args .g) (c .args .codes .now) i in omega arith,
+      ),
+    )
 
 pub returns : need.returns
 returns c =
