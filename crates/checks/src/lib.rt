@@ -1,3 +1,5 @@
 //! Tests of the other crates, here so that those are proved only once.
 #[cfg(test)]
+mod filtering;
+#[cfg(test)]
 mod trace_files;
