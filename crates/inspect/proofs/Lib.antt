@@ -1,0 +1,4 @@
+pub mod Faults
+pub mod Pads
+pub mod Reporting
+pub mod Writing
