@@ -9,7 +9,7 @@ The seed is fixed, so every run writes the same bytes.
 
 The rules of a trace file
 -------------------------
-A number is one, two or three bytes. The low seven bits of a byte are a group, and the first byte has the lowest group.
+A number is one, two or three bytes. Each byte gives seven bits, its group, and the first byte has the lowest one.
 A byte of 0x80 or more says that another byte follows. High groups may be empty: 05, 85 00 and 85 80 00 are all five.
 
 A file is a row of numbers, with nothing between them and nothing behind the last:
@@ -19,8 +19,8 @@ A file is a row of numbers, with nothing between them and nothing behind the las
     count      1 to 4096, how many samples follow
     samples    the fields of each sample, one after another
 
-    kind 1, pulse:   class 0..19                                   the code is the class
-    kind 2, stroke:  drive 0..9, recovery 0..5, slack 0..1         the code is drive * 12 + recovery * 2 + slack
+    kind 1, pulse:   class 0..19                                   its code is the class
+    kind 2, stroke:  drive 0..9, recovery 0..5, slack 0..1         its code is 12 * drive + 2 * recovery + slack
 
 A reader is for one kind. It reads front to back, and its answer is the first fault that it meets:
 

@@ -8,7 +8,8 @@ use crate::held::LONGEST_WINDOW;
 use crate::refusal::Refusal;
 use trace::sample::Sample;
 
-/// How many of the m places i + t of the query and j + t of the trace do not agree, by the kind S.
+/// In how many of m places, those from i in the query beside those from j in the trace, the codes do not agree by the
+/// kind S.
 pub fn count_mismatches<S: Sample>(
     query: &[u16],
     trace: &[u16],

@@ -2,7 +2,7 @@
 ghost use mathlib.Core.Path.{_≡_};
 ghost use mathlib.Core.List.{List};
 ghost use Prim.Native.Nat.{ℕ, _+_, _-_, _*_, _<_, _≤_};
-ghost use lib.ListN.{length, getD};
+ghost use lib.ListN.{length, getD, replicate};
 ghost use Rattle.filters.specs.Tuples.{tuple-number, starts, Sized};
 ghost use Rattle.filters.specs.Chains.{Chained};
 use crate::number::MODULUS;
@@ -23,7 +23,9 @@ pub struct Index {
 
 impl Index {
     /// The index of no place.
-    pub fn new() -> Self {
+    pub fn new() -> Self
+        ensures { λ r. ⌜ (r .heads ≡ replicate 1021 0) × (r .links ≡ replicate 1024 0) ⌝ }
+    {
         Index {
             heads: [0; MODULUS],
             links: [0; MOST_PLACES],

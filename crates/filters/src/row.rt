@@ -77,7 +77,7 @@ fn mark_chain(
     n
 }
 
-/// Whether the l codes from i and from j, g apart, are the same.
+/// Whether two tuples of codes g apart, one from i in `a` and one from j in `b`, are the same.
 pub(crate) fn alike(a: &[u16], b: &[u16], g: usize, i: usize, j: usize, l: usize) -> bool
     requires { ⌜ (i + (l - 1) * g < length (now a)) × (j + (l - 1) * g < length (now b)) ⌝ }
     ensures { λ r. ⌜ r ≡ every (same-digit g (now (a .entry)) (now (b .entry)) i j) l ⌝ }

@@ -42,8 +42,8 @@ pub fn pulse_limits() -> Limits
     limits_of::<Pulse>()
 }
 
-/// Strokes are kind 2: 120 codes, three fields, drive of at most 9, recovery of at most 5 and slack of at most 1. The
-/// code is drive × 12 + recovery × 2 + slack, and codes agree if equal.
+/// Strokes are kind 2: 120 codes, three fields, drive of at most 9, recovery of at most 5 and slack of at most 1. A
+/// stroke's code counts its drive by twelves, its recovery by twos and its slack by ones; codes agree if equal.
 pub fn stroke_limits() -> Limits
     ensures limits { λ r. ⌜ r ≡ record { kind = 2; codes = 120; fields = 3; tops = 9 ∷ 5 ∷ 1 ∷ 0 ∷ [] } ⌝ }
     ensures coded { λ _. ⌜ ((drive recovery slack : ℕ) → stroke .code (drive ∷ recovery ∷ slack ∷ []) ≡ drive * 12 + recovery * 2 + slack) ⌝ }

@@ -52,7 +52,7 @@ impl Field {
 #[derive(Clone, Copy, PartialEq, Debug)]
 pub struct Fault {
     pub cause: Cause,
-    /// The byte place where the number in question begins, or that of the first byte left over.
+    /// Where the faulty number begins, in bytes from the file's start; or where the bytes left over do.
     pub place: usize,
     pub field: Field,
 }
