@@ -1,0 +1,10 @@
+pub mod Writing
+pub mod Sums
+pub mod Comparing
+pub mod Approaching
+pub mod Matched
+pub mod Picking
+pub mod Rowing
+pub mod Wording
+pub mod Telling
+pub mod Scanning

@@ -1,0 +1,5 @@
+pub mod Refusals
+pub mod Theorems
+pub mod Listing
+pub mod Words
+pub mod Scans
