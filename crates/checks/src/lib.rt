@@ -2,4 +2,6 @@
 #[cfg(test)]
 mod filtering;
 #[cfg(test)]
+mod searching;
+#[cfg(test)]
 mod trace_files;

@@ -3,3 +3,4 @@ pub mod Theorems
 pub mod Listing
 pub mod Words
 pub mod Scans
+pub mod Examples
