@@ -14,6 +14,7 @@ use trace::refusal::CausePartialEq;
 use trace::refusal::Fault;
 use trace::refusal::Refusal;
 use trace::sample::Sample;
+use trace::sample::blank;
 use trace::stroke::Stroke;
 use trace::stroke::StrokeSample;
 
@@ -44,14 +45,6 @@ pub struct Traced<S> {
 pub enum AnyTrace {
     Pulses(Traced<Pulse>),
     Strokes(Traced<Stroke>),
-}
-
-/// Any sample, to fill the places that a trace is then read into.
-fn blank<S: Sample>() -> S {
-    match S::make(0, 0, 0, 0) {
-        Ok(sample) => sample,
-        Err(_) => unreachable(),
-    }
 }
 
 /// The fault that a reader with room for every trace tells.

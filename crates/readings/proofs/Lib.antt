@@ -2,4 +2,3 @@ pub mod Spelling
 pub mod Asking
 pub mod Codes
 pub mod Both
-pub mod Blank

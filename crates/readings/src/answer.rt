@@ -1,7 +1,6 @@
 //! The answer to a line.
 ghost use mathlib.Core.Path.{_≡_};
 ghost use lib.ListN.{length};
-ghost use Rattle.std.specs.Of.Vec.{vec-len};
 ghost use Rattle.std.specs.Vec.{made};
 ghost use Rattle.readings.specs.Lines.{line-asks};
 ghost use Rattle.readings.specs.Readings.{Answers};
@@ -13,22 +12,11 @@ use std::alloc::AllocError;
 use std::alloc::Global;
 use trace::pulse::Pulse;
 use trace::pulse::PulseSample;
-use trace::sample::Sample;
 use trace::stroke::Stroke;
 use trace::stroke::StrokeSample;
 
 /// The most samples of a trace.
 pub const ROOM: usize = 4_096;
-
-/// Samples for the longest trace to be read over.
-pub fn blank<S: Sample + Clone>(heap: Global) -> Result<Vec<S>, AllocError>
-    ensures { λ r. ⌜ made r (λ samples. vec-len samples ≡ 4096) ⌝ }
-{
-    match S::make(0, 0, 0, 0) {
-        Ok(sample) => vec![in heap; sample; ROOM],
-        Err(_) => unreachable(),
-    }
-}
 
 /// Reads the file of a line with the reader that the line asks for, as codes and as samples. The codes of a trace
 /// then stand at the front of `codes`.

@@ -8,7 +8,6 @@ mod tally;
 
 use crate::answer::ROOM;
 use crate::answer::answer;
-use crate::answer::blank;
 use crate::show::Shown;
 use crate::show::ShownDisplay;
 use crate::tally::Tally;
@@ -18,14 +17,15 @@ use std::io::BufRead;
 use std::io::BufReader;
 use trace::pulse::Pulse;
 use trace::pulse::PulseSample;
+use trace::sample::blank;
 use trace::stroke::Stroke;
 use trace::stroke::StrokeSample;
 
 fn main(rt: LibcRuntime) -> io::Result<()> {
     let heap = rt.alloc();
     let mut codes = vec![in heap; 0u16; ROOM]?;
-    let mut pulses = blank::<Pulse>(heap)?;
-    let mut strokes = blank::<Stroke>(heap)?;
+    let mut pulses = vec![in heap; blank::<Pulse>(); ROOM]?;
+    let mut strokes = vec![in heap; blank::<Stroke>(); ROOM]?;
     let mut tally = Tally::new();
     for line in BufReader::new(rt.stdin()).lines(heap) {
         let line = line?;

@@ -3,7 +3,7 @@ ghost use mathlib.Core.Path.{_≡_};
 ghost use mathlib.Core.Bool.{Bool, true};
 ghost use mathlib.Core.List.{List, [], _∷_};
 ghost use Prim.Native.Nat.{ℕ, _≤_, _<_};
-ghost use lib.ListN.{length, getD};
+ghost use lib.ListN.{length, getD, take};
 ghost use Rattle.trace.specs.Kinds.{Kind, Within, kinds, made};
 ghost use Rattle.trace.specs.Refusals.{answer, told};
 use crate::refusal::Refusal;
@@ -68,4 +68,14 @@ pub trait Sample: Copy {
     /// Whether two codes agree.
     fn agree(a: u16, b: u16) -> bool
         ensures { λ r. ⌜ r ≡ kind .agree a b ⌝ };
+}
+
+/// A sample whose fields are all 0, for memory that samples are then read into.
+pub fn blank<S: Sample>() -> S
+    ensures { λ r. ⌜ kind .fields r ≡ take (length (kind .tops)) (0 ∷ 0 ∷ 0 ∷ 0 ∷ []) ⌝ }
+{
+    match S::make(0, 0, 0, 0) {
+        Ok(sample) => sample,
+        Err(_) => unreachable(),
+    }
 }
