@@ -5,7 +5,7 @@ use mathlib.Core.Bool.{true, false}
 use mathlib.Core.List.{List, [], _∷_}
 use Rattle.filters.specs.Matching.{Question}
 use Rattle.filters.specs.Filters.{Rule, places}
-use Rattle.filters.specs.Questions.{open-rule, near}
+use Rattle.filters.specs.Questions.{pass-all-rule, near}
 use Rattle.filters.specs.Tuples.{tuple-number}
 use Rattle.filters.specs.Rules.{tuple-rule, tuple-reach}
 
@@ -29,7 +29,7 @@ pub record Examples : Type 0 where
   pub two-codes : tuple-number 2 1 (3 ∷ 4 ∷ []) 0 ≡ 903
   pub three-codes : tuple-number 3 1 (1 ∷ 2 ∷ 3 ∷ []) 0 ≡ 441
   pub later-codes : tuple-number 2 1 (2 ∷ 3 ∷ []) 0 ≡ 262
-  pub all-changed : places open-rule six changed ≡ 48
+  pub all-changed : places pass-all-rule six changed ≡ 48
   pub continuous-changed : places (tuple-rule false) six changed ≡ 1
   pub gapped-changed : places (tuple-rule true) six changed ≡ 1
   pub near-changed : places near-tuples six changed ≡ 1

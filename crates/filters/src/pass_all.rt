@@ -5,7 +5,7 @@ ghost use mathlib.Core.List.{List};
 ghost use Prim.Native.Nat.{ℕ, _+_, _-_, _*_, _/_, _%_, _^_, _<_, _≤_};
 ghost use lib.ListN.{length, getD, take};
 ghost use Rattle.std.specs.declared.result.Result.the-variants.{Ok, Err};
-ghost use Rattle.filters.specs.Questions.{question, open-rule, open-reach};
+ghost use Rattle.filters.specs.Questions.{question, pass-all-rule, pass-all-reach};
 ghost use Rattle.filters.specs.Filters.{Stands-for, pattern-of, none};
 use crate::filter::Filter;
 use crate::held::Held;
@@ -20,18 +20,18 @@ pub struct PassAll {
 impl PassAll {
     /// The filter with no question set.
     pub fn new() -> Self
-        ensures { λ r. ⌜ Stands-for open-rule open-reach (pattern-of open-rule open-reach (question (r .held .codes) (r .held .q) (r .held .m) (r .held .k))) none ⌝ }
+        ensures { λ r. ⌜ Stands-for pass-all-rule pass-all-reach (pattern-of pass-all-rule pass-all-reach (question (r .held .codes) (r .held .q) (r .held .m) (r .held .k))) none ⌝ }
     {
         PassAll { held: Held::new() }
     }
 }
 
 pub impl Filter for PassAll as PassAllFilter {
-    ghost stands = { λ x. pattern-of open-rule open-reach (question (x .held .codes) (x .held .q) (x .held .m) (x .held .k)) };
+    ghost stands = { λ x. pattern-of pass-all-rule pass-all-reach (question (x .held .codes) (x .held .q) (x .held .m) (x .held .k)) };
 
-    ghost rule = { open-rule };
+    ghost rule = { pass-all-rule };
 
-    ghost reaches = { open-reach };
+    ghost reaches = { pass-all-reach };
 
     fn set(&mut self, codes: &[u16], m: usize, k: usize) -> Result<(), Refusal> {
         self.held.set(codes, m, k)
