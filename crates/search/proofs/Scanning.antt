@@ -17,7 +17,7 @@ use Rattle.filters.specs.Filters.{Rule, Reach, Pattern, Within, Stands-for, Nec
 use Rattle.filters.specs.Questions.{ahead, any}
 use Rattle.filters.proofs.Counting.{decides-any}
 use Rattle.filters.proofs.Pairing.{ahead-at}
-use Rattle.search.specs.Listing.{picks, rows, entry, match-list, tested-row, tested-list, tested-pairs, Filled, written, back-in}
+use Rattle.search.specs.Listing.{picks, rows, entry, row-list, match-list, tested-row, tested-list, tested-pairs, Filled, written, back-in}
 use Rattle.search.specs.Scans.{nearer, quieter, places-of, Seen, Scanned}
 use Rattle.search.specs.Words.{Whole}
 use Rattle.search.proofs.Sums.{sum-zero, sum-same, sum-const-le, count-le, count-same, differ-le, bounded}
@@ -126,6 +126,19 @@ tested-counted accession agree a t near =
     omega arith) in
     omega arith
 
+-- the list has an entry for each pair
+pub list-counted : (accession : ℕ) (agree : ℕ → ℕ → Bool) (a : Question) (t : List ℕ) → length (match-list accession agree a t) ≡ pairs agree a t
+list-counted accession agree a t =
+    let f : ℕ → List Match = row-list accession agree a t in
+    let z : 0 + length t ≡ length t = omega arith in
+    let x = subst (λ (v : ℕ). sum v (λ y. length (f y)) ≡ 0 + length (rows f 0 (length t))) z (rows-sum f 0 (length t)) in
+    let v : 0 + length (a .codes) ≡ length (a .codes) = omega arith in
+    let y = sum-same (length t) (λ y. length (f y)) (λ y. count (length (a .codes)) (λ i. matches-at agree a t i y))
+    (λ y l.
+    let e = subst (λ (u : ℕ). count u (λ i. matches-at agree a t i y) ≡ 0 + length (f y)) v (picks-count (λ i. matches-at agree a t i y) (entry accession agree a t y) 0 (length (a .codes))) in
+    omega arith) in
+    omega arith
+
 -- nothing was written before
 whole-back : (b l : List Match) → written b (length b - 0) l ≡ back-in b l
 whole-back b l =
@@ -135,7 +148,7 @@ whole-back b l =
     ap (λ v. take (length b - length l) b ++ v) (append-nil (drop (length l - length b) l)))
 
 -- where there is just room
-exact-room : (b l : List Match) → length b ≡ length l → back-in b l ≡ l
+pub exact-room : (b l : List Match) → length b ≡ length l → back-in b l ≡ l
 exact-room b l e =
     let x : length b - length l ≡ 0 = omega arith in
     let y : length l - length b ≡ 0 = omega arith in
