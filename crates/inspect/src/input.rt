@@ -6,7 +6,7 @@ use std::io;
 use std::io::Read;
 
 /// Fills the front of a buffer from an input, to its end or the buffer's, and says how much of it.
-pub fn fill<R: Read>(input: &mut R, buffer: &mut [u8]) -> io::Result<usize>
+pub(crate) fn fill<R: Read>(input: &mut R, buffer: &mut [u8]) -> io::Result<usize>
     ensures within { λ r. ⌜ made r (λ n. n ≤ length (now (buffer .entry))) ⌝ }
 {
     let mut size = 0;

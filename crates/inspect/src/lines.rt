@@ -14,7 +14,7 @@ pub fn title_line(heap: Global, title: &str, number: u8, machine: u16) -> Result
 }
 
 /// The second line: how many samples there are, and how many numbers are padded.
-pub fn count_line(heap: Global, count: usize, padded: usize) -> Result<String, AllocError>
+pub(crate) fn count_line(heap: Global, count: usize, padded: usize) -> Result<String, AllocError>
     ensures is { λ r. ⌜ made r (λ s. string-bytes s ≡ count-line count padded) ⌝ }
 {
     format!(heap, "samples {count}, padded numbers {padded}\n")
@@ -40,7 +40,7 @@ fn listed(heap: Global, values: &[u8]) -> Result<String, AllocError>
 }
 
 /// The line of one field: its name and its values.
-pub fn field_line(heap: Global, name: &str, values: &[u8]) -> Result<String, AllocError>
+pub(crate) fn field_line(heap: Global, name: &str, values: &[u8]) -> Result<String, AllocError>
     ensures is { λ r. ⌜ made r (λ s. string-bytes s ≡ field-line (now (name .entry)) (now (values .entry))) ⌝ }
 {
     let list = listed(heap, values)?;

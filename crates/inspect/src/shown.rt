@@ -19,7 +19,7 @@ pub enum KindName {
 
 impl KindName {
     /// The kind's name.
-    pub fn title(self) -> &'static str
+    pub(crate) fn title(self) -> &'static str
         ensures is { λ r. ⌜ now r ≡ labels self .title ⌝ }
     {
         match self {

@@ -69,7 +69,7 @@ pub fn refusal_text(heap: Global, fault: Fault) -> Result<String, AllocError>
 }
 
 /// The refusal of an input that is longer than any trace file.
-pub fn too_long(heap: Global) -> Result<String, AllocError>
+pub(crate) fn too_long(heap: Global) -> Result<String, AllocError>
     ensures is { λ r. ⌜ made r (λ s. string-bytes s ≡ too-long) ⌝ }
     ensures true_of_all { λ _. ⌜ ((file : List ℕ) → None-longer file) ⌝ }
 {
