@@ -19,9 +19,11 @@ pub struct Near<A, B> {
 }
 
 impl<A: Filter, B: Filter> Near<A, B> {
-    /// The two filters with no question set.
+    /// The two filters, both cleared.
     pub fn new(mut first: A, mut second: B) -> Self
-        ensures { λ r. ⌜ Stands-for (near (A·Filter .rule) (A·Filter .reaches) (B·Filter .rule) (B·Filter .reaches)) (A·Filter .reaches) (near-pattern (A·Filter .stands (r .first)) (B·Filter .stands (r .second))) none ⌝ }
+        ensures first_cleared { λ r. ⌜ Stands-for (A·Filter .rule) (A·Filter .reaches) (A·Filter .stands (r .first)) none ⌝ }
+        ensures second_cleared { λ r. ⌜ Stands-for (B·Filter .rule) (B·Filter .reaches) (B·Filter .stands (r .second)) none ⌝ }
+        ensures cleared { λ r. ⌜ Stands-for (near (A·Filter .rule) (A·Filter .reaches) (B·Filter .rule) (B·Filter .reaches)) (A·Filter .reaches) (near-pattern (A·Filter .stands (r .first)) (B·Filter .stands (r .second))) none ⌝ }
     {
         first.clear();
         second.clear();
