@@ -21,7 +21,7 @@ pub(crate) fn count_line(heap: Global, count: usize, padded: usize) -> Result<St
 }
 
 /// The line above a block: the places of its first and its last sample.
-pub fn block_head(heap: Global, first: usize, last: usize) -> Result<String, AllocError>
+pub(crate) fn block_head(heap: Global, first: usize, last: usize) -> Result<String, AllocError>
     ensures is { λ r. ⌜ made r (λ s. string-bytes s ≡ block-head first last) ⌝ }
 {
     format!(heap, "samples {first} to {last}\n")

@@ -29,7 +29,7 @@ impl KindName {
     }
 
     /// The name of a field, counted from 0; past the last field it is empty.
-    pub fn field_name(self, field: usize) -> &'static str
+    pub(crate) fn field_name(self, field: usize) -> &'static str
         ensures is { λ r. ⌜ now r ≡ getD (labels self .names) field [] ⌝ }
     {
         match (self, field) {
