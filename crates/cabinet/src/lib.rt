@@ -1,4 +1,6 @@
 //! The collection of traces, and every call of it.
+#![tactic(auto)]
+
 pub mod accession;
 pub mod ask;
 pub mod collection;

@@ -1,4 +1,6 @@
 //! Tests of the other crates, here so that those are proved only once.
+#![tactic(auto)]
+
 #[cfg(test)]
 mod collecting;
 #[cfg(test)]

@@ -15,7 +15,7 @@ pub fn count_mismatches<S: Sample>(
     j: usize,
     m: usize,
 ) -> Result<usize, Refusal>
-    ensures { result ≡ compared kind.agree query.now trace.now i j m }
+    ensures { result ≡ compared S.kind.agree query.now trace.now i j m }
 {
     if m == 0 || m > LONGEST_WINDOW || !fits(query.len(), i, m) || !fits(trace.len(), j, m) {
         return Err(Refusal::NoWindow);
@@ -33,7 +33,7 @@ fn fits(size: usize, at: usize, m: usize) -> bool
 /// The places of two windows that lie inside, at which the codes do not agree.
 fn disagreements<S: Sample>(query: &[u16], trace: &[u16], i: usize, j: usize, m: usize) -> usize
     requires { (i + m ≤ length query.now) × (j + m ≤ length trace.now) }
-    ensures { result ≡ mismatches kind.agree query.now trace.now i j m }
+    ensures { result ≡ mismatches S.kind.agree query.now trace.now i j m }
 {
     let mut count = 0;
     for x in 0..m {

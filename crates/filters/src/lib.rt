@@ -1,5 +1,7 @@
 //! Filters for substring matching with k mismatches: which places of a query and a trace are worth comparing, and the
 //! law by which none that matters is dropped.
+#![tactic(auto)]
+
 pub mod compare;
 pub mod continuous;
 pub mod examples;

@@ -1,5 +1,7 @@
 //! Searches one query in traces. Standard input has the numbers m and k and, each behind its length in bytes, the query's
 //! trace file and those of the traces. Printed are the matches and a summary, or the number of the first refusal.
+#![tactic(auto)]
+
 mod desk;
 mod failure;
 mod frame;

@@ -56,7 +56,7 @@ fn read_kind<S: Sample + Clone>(
     heap: Global,
     file: &[u8],
 ) -> Result<Result<Traced<S>, Fault>, AllocError>
-    ensures is { IfOk result (λ x. answer (trace_of kind.fields) told_fault x ≡ trace_file kind.number kind.tops file.now) }
+    ensures is { IfOk result (λ x. answer (trace_of S.kind.fields) told_fault x ≡ trace_file S.kind.number S.kind.tops file.now) }
 {
     let mut samples = vec![in heap; blank::<S>(); MOST_SAMPLES]?;
     match read_samples::<S>(file, samples.as_mut_slice()) {

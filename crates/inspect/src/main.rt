@@ -1,4 +1,6 @@
 //! Reads a trace file of any kind from standard input, and prints what it holds or why it is refused.
+#![tactic(auto)]
+
 mod any_kind;
 mod blocks;
 mod input;

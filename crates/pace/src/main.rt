@@ -1,5 +1,7 @@
 //! Measures what filters cost. What they pass, which is the same in every run, goes to the standard output, and the
 //! times, which are not, go to the standard error.
+#![tactic(auto)]
+
 mod cost;
 mod draws;
 mod failure;

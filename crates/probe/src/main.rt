@@ -1,5 +1,7 @@
 //! Searches one query in one trace. Standard input has the numbers m and k and, each behind its length in bytes, the
 //! query's trace file and the trace's. Printed are the matches and a summary, or the number of the refusal.
+#![tactic(auto)]
+
 mod answer;
 mod codes;
 mod failure;

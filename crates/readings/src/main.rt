@@ -1,4 +1,6 @@
 //! Reads trace files from the standard input, one to a line in hex, and prints how each is read.
+#![tactic(auto)]
+
 mod answer;
 mod hex;
 mod line;

@@ -49,7 +49,7 @@ fn numbers(refusal: Refusal) -> Refused
 
 /// Whether the codes are those of the samples.
 fn same_codes<S: Sample>(samples: &[S], codes: &[u16]) -> bool
-    ensures { Decides result (map (λ s. kind.code (kind.fields s)) samples.now ≡ codes.now) }
+    ensures { Decides result (map (λ s. S.kind.code (S.kind.fields s)) samples.now ≡ codes.now) }
 {
     if samples.len() != codes.len() {
         return false;
@@ -64,7 +64,7 @@ fn same_codes<S: Sample>(samples: &[S], codes: &[u16]) -> bool
 
 /// Reads a file as codes and as samples, and answers what both say.
 pub fn read_both<S: Sample>(file: &[u8], codes: &mut [u16], samples: &mut [S]) -> Reading
-    ensures { length codes.old ≡ length samples.old → Says kind.code result (fitted (length codes.old) (trace_file kind.number kind.tops file.now)) codes.new }
+    ensures { length codes.old ≡ length samples.old → Says S.kind.code result (fitted (length codes.old) (trace_file S.kind.number S.kind.tops file.now)) codes.new }
 {
     match (
         read_codes::<S>(file, codes),

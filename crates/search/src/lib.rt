@@ -1,4 +1,6 @@
 //! One query against one trace: the windows that match, found through any filter.
+#![tactic(auto)]
+
 pub mod compare;
 pub mod examples;
 pub mod matches;

@@ -1,5 +1,5 @@
 -- What a kind of sample means. Assumes nothing.
-use Rattle.std.specs.Prelude.{◌≡◌, ℕ, ◌+◌, ◌*◌, ◌<◌, ◌≤◌, Bool, true, false, cond, ◌&&◌, List, [], ◌∷◌, length, take, Ok, Err, Result, nat_le, slice_index}
+use Rattle.std.specs.Prelude.{◌≡◌, ℕ, ◌+◌, ◌*◌, ◌<◌, ◌≤◌, Bool, true, false, cond, ◌&&◌, List, [], ◌∷◌, length, take, Ok, Err, Result, nat_eq, nat_le, slice_index}
 use Rattle.trace.specs.declared.pulse.Pulse.{Pulse}
 use Rattle.trace.specs.declared.stroke.Stroke.{Stroke}
 use Rattle.trace.specs.Told.{Told, only}
@@ -47,7 +47,7 @@ pulse = record {
   tops = 19 ∷ [];
   fields = λ p. read_as 19 p.class ∷ [];
   code = λ xs. slice_index xs 0;
-  agree = eqb;
+  agree = nat_eq;
 }
 
 -- strokes: drive, recovery, slack
@@ -58,5 +58,5 @@ stroke = record {
   tops = 9 ∷ 5 ∷ 1 ∷ [];
   fields = λ s. read_as 9 s.drive ∷ read_as 5 s.recovery ∷ read_as 1 s.slack ∷ [];
   code = λ xs. slice_index xs 0 * 12 + slice_index xs 1 * 2 + slice_index xs 2;
-  agree = eqb;
+  agree = nat_eq;
 }

@@ -61,7 +61,7 @@ fn number_in(file: &[u8], at: usize, low: u32, high: u32, field: Field) -> Resul
 
 /// The kind, the machine and the count, and the place of the first sample.
 fn read_header<S: Sample>(file: &[u8]) -> Result<(Header, usize), Fault>
-    ensures is { answer (λ x. record { value = head x.0; next = x.1 }) told_fault result ≡ head_of kind.number file.now }
+    ensures is { answer (λ x. record { value = head x.0; next = x.1 }) told_fault result ≡ head_of S.kind.number file.now }
     ensures lies { IfOk result (λ x. (x.1 ≤ length file.now) × (1 ≤ x.0.count) × (x.0.count ≤ 4096)) }
 {
     let kind = number_in(file, 0, 1, KINDS, Field::Kind)?;
@@ -86,7 +86,7 @@ fn read_header<S: Sample>(file: &[u8]) -> Result<(Header, usize), Fault>
 /// The sample at a place of the file, and the place of the byte behind it.
 fn sample_at<S: Sample>(file: &[u8], at: usize) -> Result<(S, usize), Fault>
     requires { at ≤ length file.now }
-    ensures is { answer (λ x. record { value = kind.fields x.0; next = x.1 }) told_fault result ≡ fields_at kind.tops [] file.now at }
+    ensures is { answer (λ x. record { value = S.kind.fields x.0; next = x.1 }) told_fault result ≡ fields_at S.kind.tops [] file.now at }
     ensures lies { IfOk result (λ x. x.1 ≤ length file.now) }
 {
     let mut numbers = [0u16; 4];
@@ -104,7 +104,7 @@ fn sample_at<S: Sample>(file: &[u8], at: usize) -> Result<(S, usize), Fault>
 
 /// Reads the whole file through: its header and the place of its first sample, or its first fault.
 fn verify<S: Sample>(file: &[u8]) -> Result<(Header, usize), Fault>
-    ensures { Verified kind.number kind.tops file.now result }
+    ensures { Verified S.kind.number S.kind.tops file.now result }
 {
     let (header, first) = read_header::<S>(file)?;
     let mut at = first;
@@ -124,9 +124,9 @@ fn verify<S: Sample>(file: &[u8]) -> Result<(Header, usize), Fault>
 
 /// Writes the codes of a sound file's samples into the front of `codes`.
 fn write_codes<S: Sample>(file: &[u8], header: Header, first: usize, codes: &mut [u16])
-    requires sound { Sound kind.number kind.tops file.now header first }
+    requires sound { Sound S.kind.number S.kind.tops file.now header first }
     requires room { header.count ≤ length codes.old }
-    ensures { codes.new ≡ codes_over kind.code (trace_file kind.number kind.tops file.now) codes.old }
+    ensures { codes.new ≡ codes_over S.kind.code (trace_file S.kind.number S.kind.tops file.now) codes.old }
 {
     let count = header.count as usize;
     let mut at = first;
@@ -143,9 +143,9 @@ fn write_codes<S: Sample>(file: &[u8], header: Header, first: usize, codes: &mut
 
 /// Writes the samples of a sound file into the front of `out`.
 fn write_samples<S: Sample>(file: &[u8], header: Header, first: usize, out: &mut [S])
-    requires sound { Sound kind.number kind.tops file.now header first }
+    requires sound { Sound S.kind.number S.kind.tops file.now header first }
     requires room { header.count ≤ length out.old }
-    ensures { SamplesOver kind.fields (trace_file kind.number kind.tops file.now) out.old out.new }
+    ensures { SamplesOver S.kind.fields (trace_file S.kind.number S.kind.tops file.now) out.old out.new }
 {
     let count = header.count as usize;
     let mut at = first;
@@ -164,10 +164,10 @@ fn write_samples<S: Sample>(file: &[u8], header: Header, first: usize, out: &mut
 /// and count. The file's first fault is told first, then a slice with less room than the file has samples; a
 /// refusal leaves `codes` as it was.
 pub fn read_codes<S: Sample>(file: &[u8], codes: &mut [u16]) -> Result<Header, Refusal>
-    ensures is { answer head told result ≡ counts (fitted (length codes.old) (trace_file kind.number kind.tops file.now)) }
-    ensures put { codes.new ≡ codes_over kind.code (fitted (length codes.old) (trace_file kind.number kind.tops file.now)) codes.old }
+    ensures is { answer head told result ≡ counts (fitted (length codes.old) (trace_file S.kind.number S.kind.tops file.now)) }
+    ensures put { codes.new ≡ codes_over S.kind.code (fitted (length codes.old) (trace_file S.kind.number S.kind.tops file.now)) codes.old }
     ensures few { IfOk result (λ h. (1 ≤ h.count) × (h.count ≤ 4096) × (h.count ≤ length codes.old)) }
-    ensures one { ReadOrRefused kind.number kind.tops file.now }
+    ensures one { ReadOrRefused S.kind.number S.kind.tops file.now }
 {
     let (header, first) = verify::<S>(file)?;
     if codes.len() < header.count as usize {
@@ -180,8 +180,8 @@ pub fn read_codes<S: Sample>(file: &[u8], codes: &mut [u16]) -> Result<Header, R
 /// Reads a trace file of the kind S: writes its samples into the front of `out`, and answers its machine and count.
 /// It refuses what `read_codes` refuses, and a refusal leaves `out` as it was.
 pub fn read_samples<S: Sample>(file: &[u8], out: &mut [S]) -> Result<Header, Refusal>
-    ensures is { answer head told result ≡ counts (fitted (length out.old) (trace_file kind.number kind.tops file.now)) }
-    ensures put { SamplesOver kind.fields (fitted (length out.old) (trace_file kind.number kind.tops file.now)) out.old out.new }
+    ensures is { answer head told result ≡ counts (fitted (length out.old) (trace_file S.kind.number S.kind.tops file.now)) }
+    ensures put { SamplesOver S.kind.fields (fitted (length out.old) (trace_file S.kind.number S.kind.tops file.now)) out.old out.new }
     ensures few { IfOk result (λ h. (1 ≤ h.count) × (h.count ≤ 4096) × (h.count ≤ length out.old)) }
 {
     let (header, first) = verify::<S>(file)?;

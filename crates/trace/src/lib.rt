@@ -1,4 +1,6 @@
 //! Kinds of samples, numbers, and trace files.
+#![tactic(auto)]
+
 pub mod examples;
 pub mod file;
 pub mod limits;

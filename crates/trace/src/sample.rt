@@ -69,7 +69,7 @@ pub trait Sample: Copy {
 
 /// A sample whose fields are all 0, for memory that samples are then read into.
 pub fn blank<S: Sample>() -> S
-    ensures { kind.fields result ≡ take (length kind.tops) (0 ∷ 0 ∷ 0 ∷ 0 ∷ []) }
+    ensures { S.kind.fields result ≡ take (length S.kind.tops) (0 ∷ 0 ∷ 0 ∷ 0 ∷ []) }
 {
     match S::make(0, 0, 0, 0) {
         Ok(sample) => sample,

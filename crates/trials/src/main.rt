@@ -1,4 +1,6 @@
 //! Tries the search on many small cases, the same ones in every run, against a search that only compares.
+#![tactic(auto)]
+
 mod cases;
 mod compare;
 mod difference;

@@ -8,8 +8,8 @@ loop-x-preserved g c =
     elim c.if-not-agree.branch [
       | then-not-agree w ↦
           let e = differs_more g.S.Sample.kind.agree c.args.query.now c.args.trace.now c.args.i c.args.j c.loop-x.x (sym w.if-not-agree.ensures) in
-          (omega (arith, w.count_is), omega (arith, w.count_is))
+          (omega (arith, w.count-is), omega (arith, w.count-is))
       | else-not-agree w ↦
           let e = agrees_more g.S.Sample.kind.agree c.args.query.now c.args.trace.now c.args.i c.args.j c.loop-x.x (sym w.if-not-agree.ensures) in
-          (omega (arith, w.count_is), omega (arith, w.count_is))
+          (omega (arith, w.count-is), omega (arith, w.count-is))
     ]

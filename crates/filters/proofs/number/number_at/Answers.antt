@@ -2,11 +2,11 @@ use Rattle.std.proofs.Common.{◌≡◌, ℕ, ◌%◌, sym, ap, ◌∙◌, arith
 use Rattle.filters.proofs.Digits.{digits, digit, spot, digits_step, number_digits}
 use Rattle.filters.proofs.number.number_at.Goals as goal
 
-pub overflow-add-v : goal.overflow-add-v
-overflow-add-v c = let h = spot c.loop-x.x c.args.l c.args.g (omega arith) in search rules
+pub overflow_add-v : goal.overflow_add-v
+overflow_add-v c = let h = spot c.loop-x.x c.args.l c.args.g (omega arith) in search rules
 
-pub offset-bounds-codes-i : goal.offset-bounds-codes-i
-offset-bounds-codes-i c = let h = spot c.loop-x.x c.args.l c.args.g (omega arith) in search rules
+pub offset_bounds-codes-i : goal.offset_bounds-codes-i
+offset_bounds-codes-i c = let h = spot c.loop-x.x c.args.l c.args.g (omega arith) in search rules
 
 pub bounds-codes-i : goal.bounds-codes-i
 bounds-codes-i c = let h = spot c.loop-x.x c.args.l c.args.g (omega arith) in search rules

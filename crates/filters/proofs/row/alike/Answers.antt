@@ -5,20 +5,20 @@ use Rattle.filters.specs.Tuples.{same_digit}
 use Rattle.filters.proofs.Digits.{spot}
 use Rattle.filters.proofs.row.alike.Goals as goal
 
-pub overflow-add-i : goal.overflow-add-i
-overflow-add-i c = let h = spot c.loop-u.u c.args.l c.args.g (omega arith) in search rules
+pub overflow_add-i : goal.overflow_add-i
+overflow_add-i c = let h = spot c.loop-u.u c.args.l c.args.g (omega arith) in search rules
 
-pub offset-bounds-a-i : goal.offset-bounds-a-i
-offset-bounds-a-i c = let h = spot c.loop-u.u c.args.l c.args.g (omega arith) in search rules
+pub offset_bounds-a-i : goal.offset_bounds-a-i
+offset_bounds-a-i c = let h = spot c.loop-u.u c.args.l c.args.g (omega arith) in search rules
 
 pub bounds-a-i : goal.bounds-a-i
 bounds-a-i c = let h = spot c.loop-u.u c.args.l c.args.g (omega arith) in search rules
 
-pub overflow-add-j : goal.overflow-add-j
-overflow-add-j c = let h = spot c.loop-u.u c.args.l c.args.g (omega arith) in search rules
+pub overflow_add-j : goal.overflow_add-j
+overflow_add-j c = let h = spot c.loop-u.u c.args.l c.args.g (omega arith) in search rules
 
-pub offset-bounds-b-j : goal.offset-bounds-b-j
-offset-bounds-b-j c = let h = spot c.loop-u.u c.args.l c.args.g (omega arith) in search rules
+pub offset_bounds-b-j : goal.offset_bounds-b-j
+offset_bounds-b-j c = let h = spot c.loop-u.u c.args.l c.args.g (omega arith) in search rules
 
 pub bounds-b-j : goal.bounds-b-j
 bounds-b-j c = let h = spot c.loop-u.u c.args.l c.args.g (omega arith) in search rules

@@ -6,10 +6,10 @@ use Rattle.filters.proofs.row.mark_chain.Goals.{then-alike, else-alike}
 pub loop-at-init : goal.loop-at-init
 loop-at-init c =
     tuple_begins c.args.l c.args.g c.args.codes.now c.args.trace.now c.args.j c.args.marks.now c.args.index.now.heads c.args.index.now.links
-    c.number-at-h.result c.requires.chained c.requires.blank c.number-at-h.ensures.0 c.number-at-h.ensures.1
+    c.number_at-h.result c.requires.chained c.requires.blank c.number_at-h.ensures.0 c.number_at-h.ensures.1
 
-pub overflow-add-n : goal.overflow-add-n
-overflow-add-n c =
+pub overflow_add-n : goal.overflow_add-n
+overflow_add-n c =
     let few = tuple_few c.args.l c.args.g c.args.codes.now c.args.trace.now c.args.j c.args.marks.now c.loop-at.marks c.loop-at.at c.loop-at.n c.loop-at.invariant in
     search rules
 

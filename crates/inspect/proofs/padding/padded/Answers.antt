@@ -10,11 +10,11 @@ loop-i-preserved c =
     let i = c.loop-i.i in
     let pair = pair_at bs i c.loop-i.auto.i c.loop-i-test.true in
     elim c.if-file-i-ge-MORE.branch [
-      | then-file-i-ge-MORE+then-file-i-eq0 w ↦ (omega (arith, pair, w.count_is, pads_here (get_or bs (i - 1) 0) (get_or bs i 0) w.if-file-i-ge-MORE.true w.if-file-i-eq0.true), omega (arith, w.count_is))
+      | then-file-i-ge-MORE+then-file-i-eq0 w ↦ (omega (arith, pair, w.count-is, pads_here (get_or bs (i - 1) 0) (get_or bs i 0) w.if-file-i-ge-MORE.true w.if-file-i-eq0.true), omega (arith, w.count-is))
       | else-file-i-ge-MORE w ↦
           elim w.else-file-i-ge-MORE.branch [
-            | else-file-i-ge-MORE-via-then-file-i-ge-MORE+else-file-i-eq0 v ↦ (omega (arith, pair, w.count_is, group_here (get_or bs (i - 1) 0) (get_or bs i 0) v.if-file-i-eq0.false), omega (arith, w.count_is))
-            | else-file-i-ge-MORE-via-else-file-i-ge-MORE v ↦ (omega (arith, pair, w.count_is, last_byte (get_or bs (i - 1) 0) (get_or bs i 0) v.if-file-i-ge-MORE.false), omega (arith, w.count_is))
+            | else-file-i-ge-MORE-via-then-file-i-ge-MORE+else-file-i-eq0 v ↦ (omega (arith, pair, w.count-is, group_here (get_or bs (i - 1) 0) (get_or bs i 0) v.if-file-i-eq0.false), omega (arith, w.count-is))
+            | else-file-i-ge-MORE-via-else-file-i-ge-MORE v ↦ (omega (arith, pair, w.count-is, last_byte (get_or bs (i - 1) 0) (get_or bs i 0) v.if-file-i-ge-MORE.false), omega (arith, w.count-is))
           ]
     ]
 

@@ -5,8 +5,8 @@ use Rattle.search.proofs.Matched.{matches_not}
 use Rattle.search.proofs.Rowing.{so_far_start, so_far_few, so_far_hit, so_far_full, so_far_miss, row_whole}
 use Rattle.search.proofs.compare.windows.Goals as goal
 
-pub overflow-add-pairs : goal.overflow-add-pairs
-overflow-add-pairs g c =
+pub overflow_add-pairs : goal.overflow_add-pairs
+overflow_add-pairs g c =
     let a : Question = record { codes = c.args.query.now; m = c.args.m; k = c.args.k } in
     omega (arith, so_far_few c.args.accession g.S.Sample.kind.agree (λ i. leb (get_or c.args.ahead.now i 0) c.args.reach) a c.args.trace.now c.args.j c.loop-i.i c.args.out.now c.loop-i.out c.args.before c.loop-i.pairs c.loop-i.invariant)
 

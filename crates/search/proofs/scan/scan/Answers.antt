@@ -25,8 +25,8 @@ loop-j-init g c =
     (g.met.F.Filter.within c.args.filter.now) (length-replicate 1025 cap)
     (λ i l. get_or-replicate 1025 i cap 0 (omega (arith, g.met.F.Filter.few c.args.filter.now)) ∙ ap (λ (z : ℕ). z + 1) c.reach-reach.ensures.is) refl
 
-pub overflow-add-places : goal.overflow-add-places
-overflow-add-places g c =
+pub overflow_add-places : goal.overflow_add-places
+overflow_add-places g c =
     let p : Pattern = g.F.Filter.stands c.args.filter.now in
     let a : Question = record { codes = c.args.question.codes.now; m = c.args.question.m; k = c.args.question.k } in
     let s = g.met.F.Filter.few c.args.filter.now in
@@ -59,12 +59,12 @@ loop-j-preserved-then-fits g c =
     let a : Question = record { codes = c.args.question.codes.now; m = c.args.question.m; k = c.args.question.k } in
     let within = g.met.F.Filter.within c.args.filter.now in
     let mk = c.in-Ok.ensures in
-    let told = told_step (p.marks c.args.trace.now) p.size p.span c.loop-j.j c.mark-row.new.marks c.loop-j.ahead c.approach.new.ahead (λ i y h. (within c.args.trace.now i y h).0) (omega arith) c.loop-j.invariant.tells mk.marks
-    (subst (λ (z : ℕ). (i : ℕ) → i < p.size → get_or c.approach.new.ahead i 0 ≡ nearer (z + 1) (get_or c.mark-row.new.marks i 0) (get_or c.loop-j.ahead (suc i) 0)) c.reach-reach.ensures.is
-    (subst (λ (z : ℕ). (i : ℕ) → i < z → get_or c.approach.new.ahead i 0 ≡ nearer (c.reach-reach.result + 1) (get_or c.mark-row.new.marks i 0) (get_or c.loop-j.ahead (suc i) 0)) c.len-q.ensures.is c.approach.ensures.near))
+    let told = told_step (p.marks c.args.trace.now) p.size p.span c.loop-j.j c.mark_row.new.marks c.loop-j.ahead c.approach.new.ahead (λ i y h. (within c.args.trace.now i y h).0) (omega arith) c.loop-j.invariant.tells mk.marks
+    (subst (λ (z : ℕ). (i : ℕ) → i < p.size → get_or c.approach.new.ahead i 0 ≡ nearer (z + 1) (get_or c.mark_row.new.marks i 0) (get_or c.loop-j.ahead (suc i) 0)) c.reach-reach.ensures.is
+    (subst (λ (z : ℕ). (i : ℕ) → i < z → get_or c.approach.new.ahead i 0 ≡ nearer (c.reach-reach.result + 1) (get_or c.mark_row.new.marks i 0) (get_or c.loop-j.ahead (suc i) 0)) c.len-q.ensures.is c.approach.ensures.near))
     (subst (λ (z : ℕ). (i : ℕ) → z ≤ i → get_or c.approach.new.ahead i 0 ≡ get_or c.loop-j.ahead i 0) c.len-q.ensures.is c.approach.ensures.rest) in
-    subst (λ (q : ℕ). Scanning p g.S.Sample.kind.agree a c.args.trace.now c.args.accession (c.loop-j.j - 1) c.approach.new.ahead q c.args.marks.now c.mark-row.new.marks c.args.out.now c.windows-pairs.new.out c.windows-pairs.result (c.loop-j.places + c.in-Ok.row)) (sym c.still-quiet.ensures)
-    (scanning_more p g.S.Sample.kind.agree a c.args.trace.now c.args.accession c.loop-j.j c.loop-j.ahead c.approach.new.ahead c.loop-j.quiet (c.reach-reach.result + 1) c.in-Ok.row c.args.marks.now c.loop-j.marks c.mark-row.new.marks c.args.out.now c.loop-j.out c.windows-pairs.new.out c.loop-j.pairs c.windows-pairs.result c.loop-j.places
+    subst (λ (q : ℕ). Scanning p g.S.Sample.kind.agree a c.args.trace.now c.args.accession (c.loop-j.j - 1) c.approach.new.ahead q c.args.marks.now c.mark_row.new.marks c.args.out.now c.windows-pairs.new.out c.windows-pairs.result (c.loop-j.places + c.in-Ok.row)) (sym c.still-quiet.ensures)
+    (scanning_more p g.S.Sample.kind.agree a c.args.trace.now c.args.accession c.loop-j.j c.loop-j.ahead c.approach.new.ahead c.loop-j.quiet (c.reach-reach.result + 1) c.in-Ok.row c.args.marks.now c.loop-j.marks c.mark_row.new.marks c.args.out.now c.loop-j.out c.windows-pairs.new.out c.loop-j.pairs c.windows-pairs.result c.loop-j.places
     within (omega arith) (omega arith) c.loop-j.invariant mk c.approach.ensures.full told
     (row_told p g.S.Sample.kind.agree a c.args.trace.now c.args.accession (c.loop-j.j - 1) c.approach.new.ahead c.loop-j.out c.windows-pairs.new.out c.loop-j.pairs c.windows-pairs.result (omega (arith, c.len-q.ensures.is)) told
     (subst (λ (z : ℕ). Filled c.loop-j.out c.windows-pairs.new.out c.loop-j.pairs c.windows-pairs.result (tested_row c.args.accession g.S.Sample.kind.agree a c.args.trace.now (λ i. leb (get_or c.approach.new.ahead i 0) z) (c.loop-j.j - 1))) c.reach-reach.ensures.is c.windows-pairs.ensures)))
@@ -75,12 +75,12 @@ loop-j-preserved-else-fits g c =
     let a : Question = record { codes = c.args.question.codes.now; m = c.args.question.m; k = c.args.question.k } in
     let within = g.met.F.Filter.within c.args.filter.now in
     let mk = c.in-Ok.ensures in
-    let told = told_step (p.marks c.args.trace.now) p.size p.span c.loop-j.j c.mark-row.new.marks c.loop-j.ahead c.approach.new.ahead (λ i y h. (within c.args.trace.now i y h).0) (omega arith) c.loop-j.invariant.tells mk.marks
-    (subst (λ (z : ℕ). (i : ℕ) → i < p.size → get_or c.approach.new.ahead i 0 ≡ nearer (z + 1) (get_or c.mark-row.new.marks i 0) (get_or c.loop-j.ahead (suc i) 0)) c.reach-reach.ensures.is
-    (subst (λ (z : ℕ). (i : ℕ) → i < z → get_or c.approach.new.ahead i 0 ≡ nearer (c.reach-reach.result + 1) (get_or c.mark-row.new.marks i 0) (get_or c.loop-j.ahead (suc i) 0)) c.len-q.ensures.is c.approach.ensures.near))
+    let told = told_step (p.marks c.args.trace.now) p.size p.span c.loop-j.j c.mark_row.new.marks c.loop-j.ahead c.approach.new.ahead (λ i y h. (within c.args.trace.now i y h).0) (omega arith) c.loop-j.invariant.tells mk.marks
+    (subst (λ (z : ℕ). (i : ℕ) → i < p.size → get_or c.approach.new.ahead i 0 ≡ nearer (z + 1) (get_or c.mark_row.new.marks i 0) (get_or c.loop-j.ahead (suc i) 0)) c.reach-reach.ensures.is
+    (subst (λ (z : ℕ). (i : ℕ) → i < z → get_or c.approach.new.ahead i 0 ≡ nearer (c.reach-reach.result + 1) (get_or c.mark_row.new.marks i 0) (get_or c.loop-j.ahead (suc i) 0)) c.len-q.ensures.is c.approach.ensures.near))
     (subst (λ (z : ℕ). (i : ℕ) → z ≤ i → get_or c.approach.new.ahead i 0 ≡ get_or c.loop-j.ahead i 0) c.len-q.ensures.is c.approach.ensures.rest) in
-    subst (λ (q : ℕ). Scanning p g.S.Sample.kind.agree a c.args.trace.now c.args.accession (c.loop-j.j - 1) c.approach.new.ahead q c.args.marks.now c.mark-row.new.marks c.args.out.now c.loop-j.out c.loop-j.pairs (c.loop-j.places + c.in-Ok.row)) (sym c.still-quiet.ensures)
-    (scanning_more p g.S.Sample.kind.agree a c.args.trace.now c.args.accession c.loop-j.j c.loop-j.ahead c.approach.new.ahead c.loop-j.quiet (c.reach-reach.result + 1) c.in-Ok.row c.args.marks.now c.loop-j.marks c.mark-row.new.marks c.args.out.now c.loop-j.out c.loop-j.out c.loop-j.pairs c.loop-j.pairs c.loop-j.places
+    subst (λ (q : ℕ). Scanning p g.S.Sample.kind.agree a c.args.trace.now c.args.accession (c.loop-j.j - 1) c.approach.new.ahead q c.args.marks.now c.mark_row.new.marks c.args.out.now c.loop-j.out c.loop-j.pairs (c.loop-j.places + c.in-Ok.row)) (sym c.still-quiet.ensures)
+    (scanning_more p g.S.Sample.kind.agree a c.args.trace.now c.args.accession c.loop-j.j c.loop-j.ahead c.approach.new.ahead c.loop-j.quiet (c.reach-reach.result + 1) c.in-Ok.row c.args.marks.now c.loop-j.marks c.mark_row.new.marks c.args.out.now c.loop-j.out c.loop-j.out c.loop-j.pairs c.loop-j.pairs c.loop-j.places
     within (omega arith) (omega arith) c.loop-j.invariant mk c.approach.ensures.full told
     (row_unfit p g.S.Sample.kind.agree a c.args.trace.now c.args.accession (c.loop-j.j - 1) c.len-q.result (length c.args.trace.now - (c.loop-j.j - 1)) c.loop-j.out c.loop-j.pairs (omega arith) refl (omega arith) c.if-fits.ensures))
 
@@ -93,8 +93,8 @@ loop-j-preserved g c =
     let cap : ℕ = c.reach-reach.result + 1 in
     let quiet = quiet_step (p.marks c.args.trace.now) p.size cap c.loop-j.j c.loop-j.quiet c.in-Ok.row (λ i y h. (within c.args.trace.now i y h).0) (omega arith) c.loop-j.invariant.still mk.count in
     let l : p.span + 1 < quieter cap c.in-Ok.row c.loop-j.quiet = omega (arith, c.still-quiet.ensures, c.reach-reach.ensures.is) in
-    subst (λ (q : ℕ). Scanning p g.S.Sample.kind.agree a c.args.trace.now c.args.accession (c.loop-j.j - 1) c.loop-j.ahead q c.args.marks.now c.mark-row.new.marks c.args.out.now c.loop-j.out c.loop-j.pairs (c.loop-j.places + c.in-Ok.row)) (sym c.still-quiet.ensures)
-    (scanning_more p g.S.Sample.kind.agree a c.args.trace.now c.args.accession c.loop-j.j c.loop-j.ahead c.loop-j.ahead c.loop-j.quiet cap c.in-Ok.row c.args.marks.now c.loop-j.marks c.mark-row.new.marks c.args.out.now c.loop-j.out c.loop-j.out c.loop-j.pairs c.loop-j.pairs c.loop-j.places
+    subst (λ (q : ℕ). Scanning p g.S.Sample.kind.agree a c.args.trace.now c.args.accession (c.loop-j.j - 1) c.loop-j.ahead q c.args.marks.now c.mark_row.new.marks c.args.out.now c.loop-j.out c.loop-j.pairs (c.loop-j.places + c.in-Ok.row)) (sym c.still-quiet.ensures)
+    (scanning_more p g.S.Sample.kind.agree a c.args.trace.now c.args.accession c.loop-j.j c.loop-j.ahead c.loop-j.ahead c.loop-j.quiet cap c.in-Ok.row c.args.marks.now c.loop-j.marks c.mark_row.new.marks c.args.out.now c.loop-j.out c.loop-j.out c.loop-j.pairs c.loop-j.pairs c.loop-j.places
     within (omega arith) (omega arith) c.loop-j.invariant mk c.loop-j.invariant.full
     (told_skip (p.marks c.args.trace.now) p.size p.span c.loop-j.j (quieter cap c.in-Ok.row c.loop-j.quiet) c.loop-j.ahead (omega arith) c.loop-j.invariant.tells quiet l)
     (row_skipped p g.S.Sample.kind.agree a c.args.trace.now c.args.accession (c.loop-j.j - 1) (quieter cap c.in-Ok.row c.loop-j.quiet) c.loop-j.out c.loop-j.pairs quiet l))
@@ -117,8 +117,8 @@ returns g c =
 pub unreachable-requires : goal.unreachable-requires
 unreachable-requires g c = omega (arith, c.in-Err.ensures.0, c.len-q.ensures.is, c.loop-j.invariant.scratch)
 
-pub returns-then-n-gt-LONGEST-TRACE : goal.returns-then-n-gt-LONGEST-TRACE
-returns-then-n-gt-LONGEST-TRACE g c = record { seen = search rules; whole = λ _. tt; few = tt; kept = kept g c.args.question.codes.now c.args.question.m c.args.question.k c.args.trace.now }
+pub returns-then-n-gt-LONGEST_TRACE : goal.returns-then-n-gt-LONGEST_TRACE
+returns-then-n-gt-LONGEST_TRACE g c = record { seen = search rules; whole = λ _. tt; few = tt; kept = kept g c.args.question.codes.now c.args.question.m c.args.question.k c.args.trace.now }
 
 pub returns-then-question-q : goal.returns-then-question-q
 returns-then-question-q g c = record { seen = search rules; whole = λ _. tt; few = tt; kept = kept g c.args.question.codes.now c.args.question.m c.args.question.k c.args.trace.now }

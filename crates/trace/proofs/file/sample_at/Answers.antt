@@ -6,21 +6,21 @@ use Rattle.trace.proofs.Walks.{Fields, fields_fault, fields_more, fields_all, ra
 use Rattle.trace.proofs.file.sample_at.Given as given
 use Rattle.trace.proofs.file.sample_at.Goals as goal
 
-pub returns-in-err-numeral : goal.returns-in-err-numeral
-returns-in-err-numeral g c =
+pub returns-in_err-numeral : goal.returns-in_err-numeral
+returns-in_err-numeral g c =
     let l = c.loop-i in
-    let fault = c.in-err-numeral.field-0.0 in
-    let exit = c.from-residual in
+    let fault = c.in_err-numeral.field-0.0 in
+    let exit = c.from_residual in
     record {
       is = broke _ _ exit.result fault _ (err_from_is_err_and exit.result exit.ensures.1)
-          (fields_fault g.S.Sample.kind.tops c.args.file.now c.args.at l.i l.numbers l.next l.invariant c.top.result _ c.top.ensures (omega arith) (sym c.in-err-numeral.ensures.is));
+          (fields_fault g.S.Sample.kind.tops c.args.file.now c.args.at l.i l.numbers l.next l.invariant c.top.result _ c.top.ensures (omega arith) (sym c.in_err-numeral.ensures.is));
       lies = IfOk-from_err _ _ exit.ensures.0;
     }
 
 pub loop-i-preserved : goal.loop-i-preserved
 loop-i-preserved g c =
     let l = c.loop-i in
-    let told = c.in-ok-numeral.ensures in
+    let told = c.in_ok-numeral.ensures in
     fields_more g.S.Sample.kind.tops c.args.file.now c.args.at l.i l.numbers l.next l.invariant c.top.result _ g.met.S.Sample.four c.top.ensures (omega arith) (sym told.is) told.lies.0 told.lies.2
 
 -- all fields are read and in range

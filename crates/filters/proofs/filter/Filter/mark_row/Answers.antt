@@ -4,8 +4,8 @@ use Rattle.filters.proofs.Rowing.{count_le, marked_more}
 use Rattle.filters.proofs.filter.Filter.mark_row.Goals as goal
 use Rattle.filters.proofs.filter.Filter.mark_row.Goals.{then-passes, else-passes}
 
-pub overflow-add-n : goal.overflow-add-n
-overflow-add-n g c =
+pub overflow_add-n : goal.overflow_add-n
+overflow_add-n g c =
     let p : ℕ → Bool = λ i. (g.Self.Filter.stands c.args.self.now).marks c.args.trace.now i c.args.j in
     omega (arith, count_le p c.loop-i.i, c.loop-i.invariant.count)
 

@@ -2,8 +2,8 @@ use Rattle.std.proofs.Common.{ℕ, ◌<◌, arith, rules}
 use Rattle.filters.specs.Sizing.{sized_at, long_at, chained_at}
 use Rattle.filters.proofs.table.Table.row.Goals as goal
 
-pub mark-row-requires : goal.mark-row-requires
-mark-row-requires c =
+pub mark_row-requires : goal.mark_row-requires
+mark_row-requires c =
     let n = long_at c.args.self.now.held.codes c.args.self.now.held.q c.args.self.now.held.m c.args.self.now.held.k c.codes-codes.result.now
     c.args.self.now.held.sizes c.args.self.now.held.full c.codes-codes.ensures in
     let q : 0 < c.args.self.now.held.q = omega (arith, c.if-codes-eq0.false) in
