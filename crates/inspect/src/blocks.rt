@@ -25,7 +25,7 @@ fn column<S: Shown>(heap: Global, samples: &[S], field: usize) -> Result<Vec<u8>
 
 /// A line for each field of some samples.
 fn field_lines<S: Shown>(heap: Global, samples: &[S]) -> Result<String, AllocError>
-    ensures is { IfOk result (λ s. string_bytes s ≡ field_lines (labels name).names (map S.Sample.kind.fields samples.now)) }
+    ensures is { IfOk result (λ s. string_bytes s ≡ field_lines (labels S.name).names (map S.Sample.kind.fields samples.now)) }
 {
     let kind = S::kind_name();
     let mut text = String::new(heap);
@@ -41,7 +41,7 @@ fn field_lines<S: Shown>(heap: Global, samples: &[S]) -> Result<String, AllocErr
 fn block<S: Shown>(heap: Global, first: usize, samples: &[S]) -> Result<String, AllocError>
     requires some { 0 < length samples.now }
     requires fits { first + length samples.now < 2 ^ 64 }
-    ensures is { IfOk result (λ s. string_bytes s ≡ block (labels name).names first (map S.Sample.kind.fields samples.now)) }
+    ensures is { IfOk result (λ s. string_bytes s ≡ block (labels S.name).names first (map S.Sample.kind.fields samples.now)) }
 {
     let mut text = block_head(heap, first, first + samples.len() - 1)?;
     let lines = field_lines(heap, samples)?;
@@ -51,7 +51,7 @@ fn block<S: Shown>(heap: Global, first: usize, samples: &[S]) -> Result<String, 
 
 /// All samples, block by block.
 fn blocks<S: Shown>(heap: Global, samples: &[S]) -> Result<String, AllocError>
-    ensures is { IfOk result (λ s. string_bytes s ≡ blocks (labels name).names (map S.Sample.kind.fields samples.now)) }
+    ensures is { IfOk result (λ s. string_bytes s ≡ blocks (labels S.name).names (map S.Sample.kind.fields samples.now)) }
 {
     let mut text = String::new(heap);
     for k in 0..samples.len().div_ceil(PER_BLOCK) {
@@ -69,7 +69,7 @@ pub fn trace_text<S: Shown>(
     trace: &Traced<S>,
     padded: usize,
 ) -> Result<String, AllocError>
-    ensures is { IfOk result (λ s. string_bytes s ≡ trace_text (labels name) (trace_of S.Sample.kind.fields trace.now) padded) }
+    ensures is { IfOk result (λ s. string_bytes s ≡ trace_text (labels S.name) (trace_of S.Sample.kind.fields trace.now) padded) }
 {
     let title = S::kind_name().title();
     let mut text = title_line(heap, title, S::kind_number(), trace.machine)?;

@@ -7,5 +7,5 @@ use Rattle.inspect.proofs.blocks.block.Goals as goal
 pub returns : goal.returns
 returns g c =
     let first = c.args.first in
-    let head = c.in-ok-text.ensures.is ∙ ap (λ n. block_head first (first + n - 1)) (sym (length-map c.args.samples.now g.S.Sample.kind.fields)) in
-    record { is = added c.in-ok-push-str.ensures.bytes head (c.as-str.ensures.value ∙ c.in-ok-lines.ensures.is) }
+    let head = c.in_ok-text.ensures.is ∙ ap (λ n. block_head first (first + n - 1)) (sym (length-map c.args.samples.now g.S.Sample.kind.fields)) in
+    record { is = added c.in_ok-push_str.ensures.bytes head (c.as_str.ensures.value ∙ c.in_ok-lines.ensures.is) }

@@ -6,7 +6,7 @@ use Rattle.inspect.proofs.blocks.column.Goals as goal
 
 pub loop-sample-preserved : goal.loop-sample-preserved
 loop-sample-preserved g c =
-    added c.in-ok-push.ensures.items c.loop-sample.invariant (ap (λ v. v ∷ []) c.value.ensures.is)
+    added c.in_ok-push.ensures.items c.loop-sample.invariant (ap (λ v. v ∷ []) c.value.ensures.is)
     ∙ column_more g.S.Sample.kind.fields c.args.samples.now c.args.field c.loop-sample.sample-index _ c.loop-sample-test.true c.sample-item.is
 
 pub returns : goal.returns

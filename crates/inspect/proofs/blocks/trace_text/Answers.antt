@@ -9,13 +9,13 @@ pub returns : goal.returns
 returns g c =
     let fields = g.S.Sample.kind.fields in
     let trace = c.args.trace.now in
-    let title = c.title-title.ensures.is ∙ ap (λ k. (labels k).title) c.kind-name.ensures.is in
-    let number = c.kind-number.ensures ∙ sym g.met.S.Shown.numbered in
+    let title = c.title-title.ensures.is ∙ ap (λ k. (labels k).title) c.kind_name.ensures.is in
+    let number = c.kind_number.ensures ∙ sym g.met.S.Shown.numbered in
     let count = c.len.ensures ∙ trace.samples.ok.0 ∙ sym (length-map (vec_items trace.samples) fields) in
-    let first = c.in-ok-text.ensures.is ∙ ap (λ t. title_line t c.kind-number.result trace.machine) title ∙ ap (λ n. title_line (labels g.S.Shown.name).title n trace.machine) number in
-    let second = c.as-str.ensures.value ∙ c.in-ok-counts.ensures.is ∙ ap (λ n. count_line n c.args.padded) count in
-    let list = c.as-str-2.ensures.value ∙ c.in-ok-list.ensures.is ∙ ap (λ l. blocks (labels g.S.Shown.name).names (map fields l)) c.as-slice.ensures.value in
+    let first = c.in_ok-text.ensures.is ∙ ap (λ t. title_line t c.kind_number.result trace.machine) title ∙ ap (λ n. title_line (labels g.S.Shown.name).title n trace.machine) number in
+    let second = c.as_str.ensures.value ∙ c.in_ok-counts.ensures.is ∙ ap (λ n. count_line n c.args.padded) count in
+    let list = c.as_str-2.ensures.value ∙ c.in_ok-list.ensures.is ∙ ap (λ l. blocks (labels g.S.Shown.name).names (map fields l)) c.as_slice.ensures.value in
     record {
       is = three (title_line (labels g.S.Shown.name).title (labels g.S.Shown.name).number trace.machine) (count_line (length (map fields (vec_items trace.samples))) c.args.padded) (blocks (labels g.S.Shown.name).names (map fields (vec_items trace.samples)))
-          first c.in-ok-push-str.ensures.bytes second c.in-ok-push-str-2.ensures.bytes list;
+          first c.in_ok-push_str.ensures.bytes second c.in_ok-push_str-2.ensures.bytes list;
     }

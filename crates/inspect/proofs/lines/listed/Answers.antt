@@ -6,7 +6,7 @@ use Rattle.inspect.proofs.lines.listed.Goals as goal
 
 pub loop-value-preserved : goal.loop-value-preserved
 loop-value-preserved c =
-    added c.in-ok-push-str.ensures.bytes c.loop-value.invariant (c.as-str.ensures.value ∙ c.in-ok-one.ensures.ok)
+    added c.in_ok-push_str.ensures.bytes c.loop-value.invariant (c.as_str.ensures.value ∙ c.in_ok-one.ensures.ok)
     ∙ listed_more c.args.values.now c.loop-value.value-index c.loop-value-test.true
 
 pub returns : goal.returns

@@ -11,4 +11,4 @@ returns-in-Pulses c =
 
 pub returns-in-Strokes : goal.returns-in-Strokes
 returns-in-Strokes c =
-    record { is = made_same string_bytes c.trace-text_in-Strokes.result (any_text (any_of (Strokes c.in-Strokes.strokes)) c.args.padded) _ (ap (λ t. any_text (any_of t) c.args.padded) (sym c.in-Strokes.is)) c.trace-text_in-Strokes.ensures.is }
+    record { is = made_same string_bytes c.trace_text-in-Strokes.result (any_text (any_of (Strokes c.in-Strokes.strokes)) c.args.padded) _ (ap (λ t. any_text (any_of t) c.args.padded) (sym c.in-Strokes.is)) c.trace_text-in-Strokes.ensures.is }

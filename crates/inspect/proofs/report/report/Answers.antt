@@ -7,19 +7,19 @@ use Rattle.inspect.specs.Wordings.{too_long}
 use Rattle.inspect.proofs.Reporting.{past_longest, answered, made_same}
 use Rattle.inspect.proofs.report.report.Goals as goal
 
-pub returns-then-input-gt-LONGEST-FILE : goal.returns-then-input-gt-LONGEST-FILE
-returns-then-input-gt-LONGEST-FILE c = record { is = made_same string_bytes c.too-long.result too_long _ (past_longest c.args.input.now (omega arith)) c.too-long.ensures.is }
+pub returns-then-input-gt-LONGEST_FILE : goal.returns-then-input-gt-LONGEST_FILE
+returns-then-input-gt-LONGEST_FILE c = record { is = made_same string_bytes c.too_long.result too_long _ (past_longest c.args.input.now (omega arith)) c.too_long.ensures.is }
 
 pub returns-in-Ok : goal.returns-in-Ok
 returns-in-Ok c =
     let input = c.args.input.now in
     let r = answer any_of told_fault (Ok c.in-Ok.trace) in
-    let is = sym (ap (answer any_of told_fault) c.in-Ok.is) ∙ c.in-ok-trace.ensures.is in
+    let is = sym (ap (answer any_of told_fault) c.in-Ok.is) ∙ c.in_ok-trace.ensures.is in
     record { is = made_same string_bytes c.any_text.result (answer_text r c.padded.result) (report_text input) (answered input r c.padded.result (omega arith) is c.padded.ensures.is) c.any_text.ensures.is }
 
 pub returns-in-Err : goal.returns-in-Err
 returns-in-Err c =
     let input = c.args.input.now in
     let r = answer any_of told_fault (Err c.in-Err.fault) in
-    let is = sym (ap (answer any_of told_fault) c.in-Err.is) ∙ c.in-ok-trace.ensures.is in
+    let is = sym (ap (answer any_of told_fault) c.in-Err.is) ∙ c.in_ok-trace.ensures.is in
     record { is = made_same string_bytes c.refusal_text.result (answer_text r (padded input)) (report_text input) (answered input r (padded input) (omega arith) is refl) c.refusal_text.ensures.is }

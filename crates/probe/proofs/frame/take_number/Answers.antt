@@ -6,5 +6,5 @@ use Rattle.probe.proofs.frame.take_number.Goals as goal
 pub returns : goal.returns
 returns c =
     let bytes = c.args.bytes.now in
-    let found = c.in-ok-value.field-0 in
-    ap (λ rest. Ok (record { value = found.value; rest = rest })) (take_rest bytes found.size) ∙ ap (front_of bytes) c.in-ok-value.ensures.is
+    let found = c.in_ok-value.field-0 in
+    ap (λ rest. Ok (record { value = found.value; rest = rest })) (take_rest bytes found.size) ∙ ap (front_of bytes) c.in_ok-value.ensures.is

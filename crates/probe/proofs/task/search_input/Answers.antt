@@ -6,4 +6,4 @@ use Rattle.probe.proofs.task.search_input.Goals as goal
 
 pub returns : goal.returns
 returns c =
-    subst (λ x. Searched near_rule near_reach c.search-files.result x) (begun c.args.input.now (framed c.in-ok-frames.frames) (omega arith) c.in-ok-frames.ensures.is) c.search-files.ensures
+    subst (λ x. Searched near_rule near_reach c.search_files.result x) (begun c.args.input.now (framed c.in_ok-frames.frames) (omega arith) c.in_ok-frames.ensures.is) c.search_files.ensures

@@ -8,7 +8,7 @@ use Rattle.readings.proofs.line.file.Goals.{else-word-eq1-via-then-word-eq1+else
 pub returns : goal.returns
 returns c =
     let word = c.args.word.now in
-    let some : 1 ≤ length word = omega (arith, eqb-false (length word) 0 (sym c.if-is-empty.ensures)) in
+    let some : 1 ≤ length word = omega (arith, eqb-false (length word) 0 (sym c.if-is_empty.ensures)) in
     let no_sign : length word ≡ 1 → get_or word 0 0 ≡ 45 → ⊥ =
     elim c.else-word-eq1.branch [ else-word-eq1-via-then-word-eq1+else-word-eq45 w ↦ λ _ e. w.if-word-eq45.false e | else-word-eq1-via-else-word-eq1 w ↦ λ e _. w.if-word-eq1.false e ]
     in
