@@ -8,4 +8,4 @@ pub returns : goal.returns
 returns g c =
     let codes = map g.S.Sample.kind.code (map g.S.Sample.kind.fields c.args.samples.now) in
     searched g.F.Filter.rule g.F.Filter.reaches (g.F.Filter.stands c.args.filter.now) g.S.Sample.kind.agree _ (asked c.args.held.now) _ codes c.args.number c.args.out.now c.scan.new.out c.in-Ok.found
-    c.question-of.ensures (loaded g.S.Sample.kind.fields g.S.Sample.kind.code c.args.samples.now c.args.codes.now c.load-codes.new.codes c.load-codes.ensures) c.requires.set c.in-Ok.ensures.whole
+    c.question_of.ensures (loaded g.S.Sample.kind.fields g.S.Sample.kind.code c.args.samples.now c.args.codes.now c.load_codes.new.codes c.load_codes.ensures) c.requires.set c.in-Ok.ensures.whole

@@ -26,16 +26,16 @@ use Rattle.cabinet.proofs.Shelving.{traces_recounted}
 use Rattle.cabinet.proofs.Steps.{accepted_kept}
 use Rattle.cabinet.proofs.collection.Collection.ask.Given as given
 use Rattle.cabinet.proofs.collection.Collection.ask.Goals as goal
-use Rattle.cabinet.proofs.collection.Collection.ask.Goals.{In-ok-header}
+use Rattle.cabinet.proofs.collection.Collection.ask.Goals.{In_ok-header}
 
-pub returns-in-err-header : goal.returns-in-err-header
-returns-in-err-header g c =
+pub returns-in_err-header : goal.returns-in_err-header
+returns-in_err-header g c =
     let l : Lengths = lengths c.args.store.now c.args.list.now c.args.codes.now c.args.marks.now in
-    let right = c.if-wrong-memory.ensures in
+    let right = c.if-wrong_memory.ensures in
     let rl = right_lengths c.args.self.now.catalog.store c.args.self.now.catalog.list l right in
-    let exit = c.from-residual in
-    let e = c.in-err-header.field-0.0 in
-    let said = c.in-err-header.ensures in
+    let exit = c.from_residual in
+    let e = c.in_err-header.field-0.0 in
+    let said = c.in_err-header.ensures in
     let is = exit_is exit.result (File e) exit.ensures.1 in
     let bad = read_fault g.S.Sample.kind.number g.S.Sample.kind.tops c.args.file.now (length c.args.codes.now) rl.codes said.one.means (file.told e) said.is in
     record {
@@ -46,22 +46,22 @@ returns-in-err-header g c =
     }
 
 -- the query's file was read
-query : (g : given.Over) (c : In-ok-header g) → Filed g.S.Sample.kind.number g.S.Sample.kind.tops c.args.file.now g.S.Sample.kind.code c.in-ok-header.header.machine c.in-ok-header.header.count c.read-codes.new.codes
+query : (g : given.Over) (c : In_ok-header g) → Filed g.S.Sample.kind.number g.S.Sample.kind.tops c.args.file.now g.S.Sample.kind.code c.in_ok-header.header.machine c.in_ok-header.header.count c.read_codes.new.codes
 query g c =
     let l : Lengths = lengths c.args.store.now c.args.list.now c.args.codes.now c.args.marks.now in
-    let rl = right_lengths c.args.self.now.catalog.store c.args.self.now.catalog.list l c.if-wrong-memory.ensures in
-    let said = c.in-ok-header.ensures in
-    filed g.S.Sample.kind.number g.S.Sample.kind.tops c.args.file.now (length c.args.codes.now) rl.codes said.one.means g.S.Sample.kind.code (head c.in-ok-header.header) c.args.codes.now c.read-codes.new.codes said.is said.put
+    let rl = right_lengths c.args.self.now.catalog.store c.args.self.now.catalog.list l c.if-wrong_memory.ensures in
+    let said = c.in_ok-header.ensures in
+    filed g.S.Sample.kind.number g.S.Sample.kind.tops c.args.file.now (length c.args.codes.now) rl.codes said.one.means g.S.Sample.kind.code (head c.in_ok-header.header) c.args.codes.now c.read_codes.new.codes said.is said.put
 
-pub returns-in-err-set : goal.returns-in-err-set
-returns-in-err-set g c =
+pub returns-in_err-set : goal.returns-in_err-set
+returns-in_err-set g c =
     let l : Lengths = lengths c.args.store.now c.args.list.now c.args.codes.now c.args.marks.now in
-    let right = c.if-wrong-memory.ensures in
-    let fl = query g (goal.at.returns-in-err-set g c).In-ok-header in
-    let exit = c.from-residual-in-err-set in
-    let e = c.in-err-set.field-0.0 in
+    let right = c.if-wrong_memory.ensures in
+    let fl = query g (goal.at.returns-in_err-set g c).In_ok-header in
+    let exit = c.from_residual-in_err-set in
+    let e = c.in_err-set.field-0.0 in
     let is = exit_is exit.result (BadQuestion e) exit.ensures.1 in
-    let bad : verdict (length fl.trace.samples) c.args.m c.args.k ≡ Err e = ap (λ (z : ℕ). verdict z c.args.m c.args.k) (sym fl.size) ∙ sym c.in-err-set.ensures.answer in
+    let bad : verdict (length fl.trace.samples) c.args.m c.args.k ≡ Err e = ap (λ (z : ℕ). verdict z c.args.m c.args.k) (sym fl.size) ∙ sym c.in_err-set.ensures.answer in
     record {
       kept = λ o h w. refused_by w (λ _. 0) exit.result (BadQuestion e) is (ask l c.args.file.now c.args.m c.args.k) (ask_bad w.holds l c.args.file.now c.args.m c.args.k right fl.trace fl.is e bad);
       again = λ o h w t. absurd (taken_not exit.result (BadQuestion e) is t);
@@ -69,14 +69,14 @@ returns-in-err-set g c =
       memory = not_wrong right;
     }
 
-pub returns-in-err-counts : goal.returns-in-err-counts
-returns-in-err-counts g c =
+pub returns-in_err-counts : goal.returns-in_err-counts
+returns-in_err-counts g c =
     let l : Lengths = lengths c.args.store.now c.args.list.now c.args.codes.now c.args.marks.now in
-    let right = c.if-wrong-memory.ensures in
-    let q = put g.S.Sample.kind (query g (goal.at.returns-in-err-counts g c).In-ok-header) c.args.m c.args.k (asked c.set.new.self) c.in-ok-set.ensures.answer c.in-ok-set.ensures.asked in
-    let exit = c.from-residual-in-err-counts in
-    let e = c.in-err-counts.field-0.0 in
-    let said = c.in-err-counts.ensures in
+    let right = c.if-wrong_memory.ensures in
+    let q = put g.S.Sample.kind (query g (goal.at.returns-in_err-counts g c).In_ok-header) c.args.m c.args.k (asked c.set.new.self) c.in_ok-set.ensures.answer c.in_ok-set.ensures.asked in
+    let exit = c.from_residual-in_err-counts in
+    let e = c.in_err-counts.field-0.0 in
+    let said = c.in_err-counts.ensures in
     let is : exit.result ≡ Err ListFull = exit_is exit.result e exit.ensures.1 ∙ ap Err said.0 in
     record {
       kept = λ o h w.
@@ -88,17 +88,17 @@ returns-in-err-counts g c =
       memory = not_wrong right;
     }
 
-pub returns-in-err-recount : goal.returns-in-err-recount
-returns-in-err-recount g c =
+pub returns-in_err-recount : goal.returns-in_err-recount
+returns-in_err-recount g c =
     let l : Lengths = lengths c.args.store.now c.args.list.now c.args.codes.now c.args.marks.now in
-    let right = c.if-wrong-memory.ensures in
-    let q = put g.S.Sample.kind (query g (goal.at.returns-in-err-recount g c).In-ok-header) c.args.m c.args.k (asked c.set.new.self) c.in-ok-set.ensures.answer c.in-ok-set.ensures.asked in
+    let right = c.if-wrong_memory.ensures in
+    let q = put g.S.Sample.kind (query g (goal.at.returns-in_err-recount g c).In_ok-header) c.args.m c.args.k (asked c.set.new.self) c.in_ok-set.ensures.answer c.in_ok-set.ensures.asked in
     let k : Catalog = c.args.self.now.catalog in
-    let counts : List Count = c.in-ok-counts.counts in
-    let n = counts_here g.S.Sample.kind g.F.Filter.rule (asked c.set.new.self) (question g.S.Sample.kind c.args.m c.args.k q.trace) k c.args.store.now counts q.asked_is c.in-ok-counts.ensures in
-    let exit = c.from-residual-in-err-recount in
-    let e = c.in-err-recount.field-0.0 in
-    let said = c.in-err-recount.ensures in
+    let counts : List Count = c.in_ok-counts.counts in
+    let n = counts_here g.S.Sample.kind g.F.Filter.rule (asked c.set.new.self) (question g.S.Sample.kind c.args.m c.args.k q.trace) k c.args.store.now counts q.asked_is c.in_ok-counts.ensures in
+    let exit = c.from_residual-in_err-recount in
+    let e = c.in_err-recount.field-0.0 in
+    let said = c.in_err-recount.ensures in
     let full = recount_refused (standing k) k.list counts e n.few said.0 in
     let is : exit.result ≡ Err ListFull = exit_is exit.result e exit.ensures.1 ∙ ap Err full.0 in
     record {
@@ -111,19 +111,19 @@ returns-in-err-recount g c =
       memory = not_wrong right;
     }
 
-pub list-traces-requires : goal.list-traces-requires
-list-traces-requires g c =
+pub list_traces-requires : goal.list_traces-requires
+list_traces-requires g c =
     let l : Lengths = lengths c.args.store.now c.args.list.now c.args.codes.now c.args.marks.now in
-    let rl = right_lengths c.args.self.now.catalog.store c.args.self.now.catalog.list l c.if-wrong-memory.ensures in
+    let rl = right_lengths c.args.self.now.catalog.store c.args.self.now.catalog.list l c.if-wrong_memory.ensures in
     let k : Catalog = c.args.self.now.catalog in
     let rs : List Row = standing k in
     let a : Question = asked c.set.new.self in
-    let counts : List Count = c.in-ok-counts.counts in
-    let n = counts_here g.S.Sample.kind g.F.Filter.rule a a k c.args.store.now counts refl c.in-ok-counts.ensures in
-    let said = c.in-ok-recount.ensures in
+    let counts : List Count = c.in_ok-counts.counts in
+    let n = counts_here g.S.Sample.kind g.F.Filter.rule a a k c.args.store.now counts refl c.in_ok-counts.ensures in
+    let said = c.in_ok-recount.ensures in
     record {
-      set = subst (StandsFor g.F.Filter.rule g.F.Filter.reaches (g.F.Filter.stands c.set-2.new.self)) (ap (λ (z : List ℕ). record { codes = z; m = c.args.m; k = c.args.k }) (c.codes.ensures ∙ ap (λ (z : Question). z.codes) c.in-ok-set.ensures.asked) ∙ sym c.in-ok-set.ensures.asked) c.in-ok-set-2.ensures.asked;
-      room = (omega (arith, rl.codes, c.read-codes.auto.codes, c.count-traces.auto.codes), omega (arith, rl.marks, c.count-traces.auto.marks));
+      set = subst (StandsFor g.F.Filter.rule g.F.Filter.reaches (g.F.Filter.stands c.set-2.new.self)) (ap (λ (z : List ℕ). record { codes = z; m = c.args.m; k = c.args.k }) (c.codes.ensures ∙ ap (λ (z : Question). z.codes) c.in_ok-set.ensures.asked) ∙ sym c.in_ok-set.ensures.asked) c.in_ok-set-2.ensures.asked;
+      room = (omega (arith, rl.codes, c.read_codes.auto.codes, c.count_traces.auto.codes), omega (arith, rl.marks, c.count_traces.auto.marks));
       store = rl.store_is ∙ sym said.2.store;
       list = rl.list_is ∙ sym said.2.list;
       counted = said.1 ∙ rows_recounted g.S.Sample.kind g.F.Filter.rule a rs c.args.store.now counts (omega (arith, k.stored, rl.store_is)) n.are
@@ -133,20 +133,20 @@ list-traces-requires g c =
 pub returns : goal.returns
 returns g c =
     let l : Lengths = lengths c.args.store.now c.args.list.now c.args.codes.now c.args.marks.now in
-    let right = c.if-wrong-memory.ensures in
-    let q = put g.S.Sample.kind (query g (goal.at.returns g c).In-ok-header) c.args.m c.args.k (asked c.set.new.self) c.in-ok-set.ensures.answer c.in-ok-set.ensures.asked in
+    let right = c.if-wrong_memory.ensures in
+    let q = put g.S.Sample.kind (query g (goal.at.returns g c).In_ok-header) c.args.m c.args.k (asked c.set.new.self) c.in_ok-set.ensures.answer c.in_ok-set.ensures.asked in
     let k : Catalog = c.args.self.now.catalog in
     let a : Question = question g.S.Sample.kind c.args.m c.args.k q.trace in
-    let counts : List Count = c.in-ok-counts.counts in
-    let n = counts_here g.S.Sample.kind g.F.Filter.rule (asked c.set.new.self) a k c.args.store.now counts q.asked_is c.in-ok-counts.ensures in
-    let said = c.in-ok-recount.ensures in
+    let counts : List Count = c.in_ok-counts.counts in
+    let n = counts_here g.S.Sample.kind g.F.Filter.rule (asked c.set.new.self) a k c.args.store.now counts q.asked_is c.in_ok-counts.ensures in
+    let said = c.in_ok-recount.ensures in
     let set_is : StandsFor g.F.Filter.rule g.F.Filter.reaches (g.F.Filter.stands c.set-2.new.self) a =
-    subst (StandsFor g.F.Filter.rule g.F.Filter.reaches (g.F.Filter.stands c.set-2.new.self)) (ap (λ (z : List ℕ). record { codes = z; m = c.args.m; k = c.args.k }) (c.codes.ensures ∙ ap (λ (z : Question). z.codes) q.asked_is)) c.in-ok-set-2.ensures.asked in
-    let goes : (o : Opening) (h : List Call) → After g.S.Sample.kind g.F.Filter.rule g.F.Filter.reaches g.F.Filter.stands o h c.args.self.now c.args.store.now c.args.list.now → After g.S.Sample.kind g.F.Filter.rule g.F.Filter.reaches g.F.Filter.stands o (ask l c.args.file.now c.args.m c.args.k ∷ h) (record { kind = c.args.self.now.kind; filter = c.set-2.new.self; question = c.set.new.self; mark = c.args.self.now.mark; catalog = c.recount.new.self }) c.args.store.now c.list-traces.new.list × Answers (Ok 0) (outcome g.S.Sample.kind o (after g.S.Sample.kind o h) (ask l c.args.file.now c.args.m c.args.k)) =
+    subst (StandsFor g.F.Filter.rule g.F.Filter.reaches (g.F.Filter.stands c.set-2.new.self)) (ap (λ (z : List ℕ). record { codes = z; m = c.args.m; k = c.args.k }) (c.codes.ensures ∙ ap (λ (z : Question). z.codes) q.asked_is)) c.in_ok-set-2.ensures.asked in
+    let goes : (o : Opening) (h : List Call) → After g.S.Sample.kind g.F.Filter.rule g.F.Filter.reaches g.F.Filter.stands o h c.args.self.now c.args.store.now c.args.list.now → After g.S.Sample.kind g.F.Filter.rule g.F.Filter.reaches g.F.Filter.stands o (ask l c.args.file.now c.args.m c.args.k ∷ h) (record { kind = c.args.self.now.kind; filter = c.set-2.new.self; question = c.set.new.self; mark = c.args.self.now.mark; catalog = c.recount.new.self }) c.args.store.now c.list_traces.new.list × Answers (Ok 0) (outcome g.S.Sample.kind o (after g.S.Sample.kind o h) (ask l c.args.file.now c.args.m c.args.k)) =
     λ o h w.
     accepted_kept g.met.S.Sample.agreeing g.met.F.Filter.inside g.met.F.Filter.necessary h (ask l c.args.file.now c.args.m c.args.k) 0
-    (ask_holds w.holds a c.set.new.self c.set-2.new.self c.recount.new.self counts c.list-traces.new.list q.asked_is set_is n.are said.1 said.2 c.list-traces.auto.list
-    (c.list-traces.ensures ∙ ap (λ (z : Question). padded (length c.args.list.now) (all_matches g.S.Sample.kind z (traces_of g.S.Sample.kind.fields (standing c.recount.new.self) c.args.store.now))) q.asked_is))
+    (ask_holds w.holds a c.set.new.self c.set-2.new.self c.recount.new.self counts c.list_traces.new.list q.asked_is set_is n.are said.1 said.2 c.list_traces.auto.list
+    (c.list_traces.ensures ∙ ap (λ (z : Question). padded (length c.args.list.now) (all_matches g.S.Sample.kind z (traces_of g.S.Sample.kind.fields (standing c.recount.new.self) c.args.store.now))) q.asked_is))
     (ask_met w.holds l c.args.file.now c.args.m c.args.k right q.trace q.is q.fair (omega (arith, recount_fits (standing k) k.list counts n.few said.0, n.pairs))) in
     record {
       kept = goes;

@@ -4,10 +4,10 @@ use Rattle.catalog.specs.Rows.{blank}
 use Rattle.cabinet.proofs.Lending.{lend_none_kept, lend_full_kept, lend_kept}
 use Rattle.cabinet.proofs.collection.Collection.lend.Goals as goal
 
-pub returns-in-default : goal.returns-in-default
-returns-in-default g c = record {
+pub returns-in_default : goal.returns-in_default
+returns-in_default g c = record {
   kept = λ store list o h w.
-      lend_none_kept w c.args.number c.in-default.ensures.is;
+      lend_none_kept w c.args.number c.in_default.ensures.is;
   slip = tt;
   same = refl;
 }
@@ -28,7 +28,7 @@ returns g c =
       kept = λ store list o h w.
           lend_kept w
           c.args.number c.in-Some.at c.in-Some.ensures.is c.in-Some.ensures.inside g.met.S.Sample.agreeing g.met.F.Filter.inside g.met.F.Filter.necessary
-          _ _ c.set-loans.ensures.rows c.set-loans.ensures.same refl refl refl refl few c.new.result.number (sym (ap (λ s. s.number) c.new.ensures));
+          _ _ c.set_loans.ensures.rows c.set_loans.ensures.same refl refl refl refl few c.new.result.number (sym (ap (λ s. s.number) c.new.ensures));
       slip = (ap (λ s. s.mark) c.new.ensures, ap (λ s. s.number) c.new.ensures);
       same = tt;
     }

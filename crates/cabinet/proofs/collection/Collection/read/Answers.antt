@@ -6,18 +6,18 @@ use Rattle.cabinet.proofs.Finding.{not_standing}
 use Rattle.cabinet.proofs.Telling.{read_told}
 use Rattle.cabinet.proofs.collection.Collection.read.Goals as goal
 
-pub returns-in-default : goal.returns-in-default
-returns-in-default g c = record {
+pub returns-in_default : goal.returns-in_default
+returns-in_default g c = record {
   memory = λ other. absurd (other c.if-store-self.false);
   read = λ o h list w. (
     not_standing w.holds
-        c.args.number c.in-default.ensures.is,
+        c.args.number c.in_default.ensures.is,
     refl,
   );
 }
 
-pub slice-bounds-result-end : goal.slice-bounds-result-end
-slice-bounds-result-end g c =
+pub slice_bounds-result-end : goal.slice_bounds-result-end
+slice_bounds-result-end g c =
     let ends = part_stored c.args.self.now.catalog c.in-Some.at c.in-Some.ensures.inside c.totals-place.result.samples (ap (λ (t : Totals). t.samples) c.totals-place.ensures.is) in
     omega (arith, ends, c.if-store-self.false)
 

@@ -5,9 +5,9 @@ use Rattle.cabinet.proofs.Finding.{not_standing, is_standing}
 use Rattle.cabinet.proofs.Telling.{row_told}
 use Rattle.cabinet.proofs.collection.Collection.row.Goals as goal
 
-pub returns-in-default : goal.returns-in-default
-returns-in-default g c = λ o h store list w.
-    (not_standing w.holds c.args.number c.in-default.ensures.is, refl)
+pub returns-in_default : goal.returns-in_default
+returns-in_default g c = λ o h store list w.
+    (not_standing w.holds c.args.number c.in_default.ensures.is, refl)
 
 pub returns : goal.returns
 returns g c = λ o h store list w. (

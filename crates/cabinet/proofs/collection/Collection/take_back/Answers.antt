@@ -14,12 +14,12 @@ returns-then-mark-self g c = record {
   same = refl;
 }
 
-pub returns-in-default : goal.returns-in-default
-returns-in-default g c = record {
+pub returns-in_default : goal.returns-in_default
+returns-in_default g c = record {
   kept = λ store list o h w.
       back_none_kept w
       c.args.slip.number c.args.slip.mark (sym c.mark.ensures ∙ c.if-mark-self.false)
-      (subst (λ (n : ℕ). None ≡ found_at n (standing c.args.self.now.catalog)) c.number.ensures c.in-default.ensures.is);
+      (subst (λ (n : ℕ). None ≡ found_at n (standing c.args.self.now.catalog)) c.number.ensures c.in_default.ensures.is);
   back = refl;
   same = refl;
 }
@@ -39,7 +39,7 @@ returns g c = record {
   kept = λ store list o h w.
       back_kept w
       c.args.slip.number c.in-Some.at (subst (λ (n : ℕ). Some c.in-Some.at ≡ found_at n (standing c.args.self.now.catalog)) c.number.ensures c.in-Some.ensures.is) c.in-Some.ensures.inside
-      g.met.S.Sample.agreeing g.met.F.Filter.inside g.met.F.Filter.necessary _ _ c.set-loans.ensures.rows c.set-loans.ensures.same refl refl refl
+      g.met.S.Sample.agreeing g.met.F.Filter.inside g.met.F.Filter.necessary _ _ c.set_loans.ensures.rows c.set_loans.ensures.same refl refl refl
       c.args.slip.mark (sym c.mark.ensures ∙ c.if-mark-self.false) refl c.if-row-eq0.false;
   back = tt;
   same = tt;
