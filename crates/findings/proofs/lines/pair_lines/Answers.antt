@@ -6,7 +6,7 @@ use Rattle.findings.proofs.lines.pair_lines.Goals as goal
 
 pub loop-pair-preserved : goal.loop-pair-preserved
 loop-pair-preserved c =
-    added c.in-ok-push-str.ensures.bytes c.loop-pair.invariant (c.as-str.ensures.value ∙ c.in-ok-line.ensures.is)
+    added c.in_ok-push_str.ensures.bytes c.loop-pair.invariant (c.as_str.ensures.value ∙ c.in_ok-line.ensures.is)
     ∙ pairs_more c.args.pairs.now c.loop-pair.pair-index _ c.loop-pair-test.true
 
 pub returns : goal.returns

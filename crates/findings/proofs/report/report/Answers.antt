@@ -17,7 +17,7 @@ pub returns-in-Err : goal.returns-in-Err
 returns-in-Err c =
     let input = c.args.input.now in
     let failure = c.in-Err.failure in
-    let line = c.failure-line in
+    let line = c.failure_line in
     record {
       is = made_text string_bytes line.result input failure c.in-Err.ensures line.ensures;
       parts = made_parts string_bytes line.result input failure c.in-Err.ensures line.ensures;
