@@ -1,11 +1,14 @@
-# All the set-up there is: `make demo` builds and runs, `make test` runs the gate.
-.PHONY: demo test
+# All the set-up there is: `make demo` builds and runs, `make test` runs the gate. `make PROGRAM` builds crates/PROGRAM/out/PROGRAM.
+PROGRAMS := findings inspect probe readings pace trials
 
-demo: target/bin/findings
-	target/bin/findings < examples/knock.findings
+.PHONY: demo test $(PROGRAMS)
 
-target/bin/findings: $(shell find crates/trace crates/filters crates/search crates/catalog crates/cabinet crates/findings -type f)
-	rt check findings
+demo: findings
+	crates/findings/out/findings < examples/knock.findings
+
+# `rt run` proves and builds the program, which stays in out/, and runs it once, here on no input
+$(PROGRAMS):
+	cd crates/$@ && rt run < /dev/null > /dev/null
 
 test:
 	.ci/run

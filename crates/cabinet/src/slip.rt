@@ -2,7 +2,7 @@
 ghost use Rattle.std.specs.Prelude.{◌≡◌};
 
 /// The receipt for one loan of a trace. It is given back to the collection or written off, and never just let fall: its
-/// `drop` asks for what nobody has.
+/// `drop` asks for a slip without a mark, and no collection that lends has the mark 0.
 pub struct Slip {
     mark: u32,
     number: u32,
@@ -10,7 +10,7 @@ pub struct Slip {
 
 impl Drop for Slip {
     fn drop(self)
-        requires { ⊥ }
+        requires { self.mark ≡ 0 }
     {
         let Slip { mark: _, number: _ } = self;
     }
