@@ -23,7 +23,7 @@ use Rattle.catalog.specs.declared.row.Totals.{Totals}
 use Rattle.catalog.specs.Rows.{samples_in, pairs_in, totals_of}
 use Rattle.catalog.specs.Catalogs.{standing, admitted, new_row, Pushed}
 use Rattle.cabinet.specs.declared.collection.Collection.{Collection}
-use Rattle.cabinet.specs.Model.{Opening, Lengths, Trace, State, Outcome, accepted, refused, unless, outcome, accession, read, new, shelve, codes_of, pairs_of, wrong}
+use Rattle.cabinet.specs.Model.{Opening, Lengths, Trace, State, Outcome, accepted, refused, unless, outcome, accession, read, shelve, codes_of, pairs_of, wrong}
 use Rattle.cabinet.specs.Words.{all_matches, padded}
 use Rattle.cabinet.specs.Searching.{count_in}
 use Rattle.cabinet.specs.Shelf.{trace_of, traces_of, row_of}

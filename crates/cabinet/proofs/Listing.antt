@@ -6,7 +6,7 @@ use Rattle.std.proofs.lemmas.List.{length-set, length-drop, length-take-le, take
 use Rattle.std.proofs.lemmas.List.Sums.{sum_by_more, sum_by-take-le}
 use Rattle.trace.specs.Kinds.{Kind}
 use Rattle.filters.specs.Matching.{Question, pairs}
-use Rattle.filters.specs.Filters.{Rule, Reach, Pattern, StandsFor, places}
+use Rattle.filters.specs.Filters.{Rule, Reach, Pattern, StandsFor}
 use Rattle.search.specs.declared.matches.Match.{Match}
 use Rattle.search.specs.declared.matches.Found.{Found}
 use Rattle.search.specs.Listing.{match_list, back_in}

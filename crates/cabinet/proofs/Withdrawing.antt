@@ -6,7 +6,6 @@ use Rattle.std.proofs.lemmas.List.{append_assoc, length-append, length-take-le, 
 use Rattle.std.proofs.lemmas.List.Sums.{sum_by-cons, sum_by-append, sum_by-take-drop, sum_by-drop_more}
 use Rattle.std.proofs.lemmas.Bool.{le-leb, and_from, cond-true, lt-ltb, le-ltb}
 use Rattle.trace.specs.Kinds.{Kind}
-use Rattle.filters.specs.Asking.{asked}
 use Rattle.filters.specs.Filters.{Rule, Reach, Pattern}
 use Rattle.filters.specs.Matching.{Question}
 use Rattle.search.specs.declared.matches.Match.{Match}

@@ -1,5 +1,5 @@
 -- What the calls of a collection answer and leave, beside the promise. Assumes nothing.
-use Rattle.std.specs.Prelude.{◌≡◌, ℕ, Bool, true, cond, ◌||◌, List, [], length, Ok, Err, Result, ◌==◌, nat_lt}
+use Rattle.std.specs.Prelude.{◌≡◌, ℕ, true, cond, ◌||◌, List, [], length, Ok, Err, Result, ◌==◌, nat_lt}
 use Rattle.trace.specs.Told.{Told}
 use Rattle.trace.specs.Kinds.{Kind}
 use Rattle.filters.specs.Asking.{asked}

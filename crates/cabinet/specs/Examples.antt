@@ -5,9 +5,8 @@ use Rattle.trace.specs.Told.{only}
 use Rattle.trace.specs.Kinds.{pulse}
 use Rattle.trace.specs.Examples as files
 use Rattle.filters.specs.Examples as filters
-use Rattle.search.specs.declared.matches.Match.{Match}
 use Rattle.search.specs.Examples as lists
-use Rattle.cabinet.specs.Model.{Opening, Lengths, State, Call, Outcome, accession, ask, accepted, refused, outcome, after}
+use Rattle.cabinet.specs.Model.{Opening, Lengths, State, Call, accession, ask, refused, outcome, after}
 use Rattle.cabinet.specs.Words.{all_matches}
 
 -- a query of three fives, and a trace of four, from machine 1

@@ -1,5 +1,5 @@
 -- What stands after a list of calls, by their arguments alone. Assumes nothing.
-use Rattle.std.specs.Prelude.{ℕ, suc, ◌+◌, ◌-◌, Bool, true, false, cond, not, ◌||◌, List, [], ◌∷◌, ◌++◌, map, length, Ok, Err, sum_by, Result, ◌==◌, nat_le, nat_lt}
+use Rattle.std.specs.Prelude.{ℕ, suc, ◌+◌, ◌-◌, Bool, false, cond, not, ◌||◌, List, [], ◌∷◌, ◌++◌, map, length, Ok, Err, sum_by, Result, ◌==◌, nat_le, nat_lt}
 use Rattle.trace.specs.Told.{Told, only}
 use Rattle.trace.specs.Kinds.{Kind}
 use Rattle.trace.specs.Files as file

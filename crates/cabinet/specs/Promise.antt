@@ -1,5 +1,5 @@
 -- What is promised of a collection after every list of calls. Assumes nothing.
-use Rattle.std.specs.Prelude.{◌≡◌, ℕ, suc, ◌*◌, ◌<◌, ◌≤◌, Bool, true, false, List, [], ◌∷◌, map, length, Ok, Err, Result, slice_index_or}
+use Rattle.std.specs.Prelude.{◌≡◌, ℕ, suc, ◌*◌, ◌<◌, ◌≤◌, List, [], ◌∷◌, map, length, Ok, Err, Result, slice_index_or}
 use Rattle.trace.specs.Told.{Told}
 use Rattle.trace.specs.Kinds.{Kind}
 use Rattle.trace.specs.Files as file
@@ -9,7 +9,7 @@ use Rattle.search.specs.Words as one
 use Rattle.catalog.specs.Rows.{pairs_in, places_in}
 use Rattle.catalog.specs.Catalogs.{standing}
 use Rattle.cabinet.specs.declared.collection.Collection.{Collection}
-use Rattle.cabinet.specs.Model.{Opening, Lengths, State, Call, Outcome, accepted, refused, outcome, after, read}
+use Rattle.cabinet.specs.Model.{Opening, State, Call, Outcome, accepted, refused, outcome, after, read}
 use Rattle.cabinet.specs.Words.{Whole, all_matches, padded}
 use Rattle.cabinet.specs.Shelf.{state_of, row_of}
 

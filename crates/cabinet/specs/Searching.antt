@@ -4,7 +4,6 @@ use Rattle.trace.specs.Kinds.{Kind}
 use Rattle.filters.specs.Filters.{Rule, Reach, Pattern, StandsFor, places}
 use Rattle.filters.specs.Matching.{Question, pairs}
 use Rattle.search.specs.declared.matches.Match.{Match}
-use Rattle.search.specs.declared.matches.Found.{Found}
 use Rattle.search.specs.Listing.{match_list, back_in}
 use Rattle.catalog.specs.declared.row.Count.{Count}
 use Rattle.catalog.specs.declared.refusal.Refusal.{Refusal}

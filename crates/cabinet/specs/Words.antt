@@ -1,5 +1,5 @@
 -- What the match list is, in the subject's own words. Assumes nothing.
-use Rattle.std.specs.Prelude.{◌≡◌, ℕ, suc, ◌-◌, ◌<◌, ◌≤◌, Bool, ◌⊎◌, List, [], ◌++◌, map, length, get_or, replicate, slice_index_or}
+use Rattle.std.specs.Prelude.{◌≡◌, ℕ, suc, ◌-◌, ◌<◌, ◌≤◌, ◌⊎◌, List, [], ◌++◌, length, get_or, replicate, slice_index_or}
 use Rattle.std.specs.List.{flat_map}
 use Rattle.trace.specs.Kinds.{Kind}
 use Rattle.filters.specs.Matching.{Question, Matches}

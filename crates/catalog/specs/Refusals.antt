@@ -1,5 +1,4 @@
 -- Every refusal of the collection, by its number and, in a file, its place and field. Assumes nothing.
-use Rattle.std.specs.Prelude.{ℕ}
 use Rattle.trace.specs.Told.{Told, only}
 use Rattle.trace.specs.Refusals as file
 use Rattle.filters.specs.Refusals.{refusal_number}

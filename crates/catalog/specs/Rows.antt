@@ -1,5 +1,5 @@
 -- Rows of the catalogue. Assumes nothing.
-use Rattle.std.specs.Prelude.{◌≡◌, ℕ, suc, ◌+◌, ◌<◌, ◌≤◌, Bool, cond, not, List, [], ◌∷◌, ◌++◌, length, Some, None, sum_by, Option, ◌==◌, nat_lt}
+use Rattle.std.specs.Prelude.{ℕ, cond, not, List, [], ◌∷◌, length, Some, None, sum_by, Option, ◌==◌, nat_lt}
 use Rattle.std.specs.List.{prefix_len}
 use Rattle.catalog.specs.declared.row.Row.{Row}
 use Rattle.catalog.specs.declared.row.Count.{Count}

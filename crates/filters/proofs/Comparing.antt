@@ -1,5 +1,5 @@
 -- One more place is compared. Assumes nothing.
-use Rattle.std.proofs.Common.{◌≡◌, ℕ, zero, suc, ◌+◌, ◌≤◌, Bool, true, false, cond, List, length, get_or, add-one, arith}
+use Rattle.std.proofs.Common.{◌≡◌, ℕ, ◌+◌, Bool, true, false, List, get_or, add-one, arith}
 use Rattle.filters.specs.Matching.{mismatches}
 
 module _ (agree : ℕ → ℕ → Bool) (q t : List ℕ) (i j n : ℕ) where

@@ -1,6 +1,6 @@
 -- Digits to the base 640, the first the highest, and their sum with powers.
-use Rattle.std.proofs.Common.{◌≡◌, ℕ, zero, suc, ◌+◌, ◌-◌, ◌*◌, ◌/◌, ◌%◌, ◌^◌, ◌<◌, ◌≤◌, List, length, get_or, sym, refl, ap, ◌∙◌, subst, add_assoc, mul-le-mul_right, mul_assoc, suc-mul, mul_comm, add-mul, add_comm, pow-suc, mul-suc, mul-add, add-one, one-add, arith}
-use native.Mathlib.Nat.{pow-zero, div-add-mod, mul-add-mod_self_left, add-mul-mod_self_left, sub_self}
+use Rattle.std.proofs.Common.{◌≡◌, ℕ, zero, suc, ◌+◌, ◌-◌, ◌*◌, ◌/◌, ◌%◌, ◌^◌, ◌<◌, ◌≤◌, List, get_or, sym, refl, ap, ◌∙◌, mul-le-mul_right, mul_assoc, suc-mul, mul_comm, add-mul, pow-suc, mul-add, add-one, arith}
+use native.Mathlib.Nat.{pow-zero, div-add-mod, mul-add-mod_self_left, add-mul-mod_self_left}
 use Rattle.filters.specs.Matching.{sum}
 use Rattle.filters.specs.Tuples.{tuple_number}
 

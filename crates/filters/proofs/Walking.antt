@@ -1,6 +1,6 @@
 -- A walk along the chain of one number marks the places that pass, from the last down.
-use Rattle.std.proofs.Common.{◌≡◌, ℕ, zero, suc, ◌+◌, ◌-◌, ◌*◌, ◌%◌, ◌<◌, ◌≤◌, Bool, true, false, cond, ◌&&◌, eqb, ltb, leb, ◌≢◌, ◌⊎◌, List, length, get_or, set, sym, refl, ap, ◌∙◌, subst, inl, inr, ⊎_elim, add-one, arith, length-set, get_or-set_other, get_or-set_same, below_more}
-use Rattle.std.proofs.lemmas.Bool.{cases_eq, cases_lt, cases_Bool, le-leb, lt-leb, lt-ltb, ltb-true, eqb-true, and_parts, and_from, and_left, and_right}
+use Rattle.std.proofs.Common.{◌≡◌, ℕ, zero, suc, ◌+◌, ◌-◌, ◌*◌, ◌%◌, ◌<◌, ◌≤◌, Bool, true, false, cond, ◌&&◌, ltb, leb, ◌≢◌, List, length, get_or, set, sym, refl, ap, ◌∙◌, subst, ⊎_elim, arith, length-set, get_or-set_other, get_or-set_same, below_more}
+use Rattle.std.proofs.lemmas.Bool.{cases_eq, cases_lt, cases_Bool, le-leb, lt-leb, lt-ltb, ltb-true, eqb-true, and_parts, and_left, and_right}
 use Rattle.filters.specs.Questions.{every}
 use Rattle.filters.specs.Matching.{count}
 use Rattle.filters.specs.Filters.{Marked}
@@ -9,7 +9,7 @@ use Rattle.filters.proofs.Rowing.{count_le}
 use Rattle.filters.specs.Tuples.{tuple_number, starts, same_digit, same_tuple}
 use Rattle.filters.specs.Chains.{latest, Chained, Cleared}
 use Rattle.filters.proofs.Chaining.{latest_le, latest_stays, latest_last, latest_has}
-use Rattle.filters.proofs.Digits.{digits, digit, digits_ext, number_digits}
+use Rattle.filters.proofs.Digits.{digit, digits_ext, number_digits}
 
 abbrev pub bit : Bool → ℕ
 bit b = cond b 1 0

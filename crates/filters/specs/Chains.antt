@@ -1,5 +1,5 @@
 -- The index of tuples: chains of the places that have one number. Assumes nothing.
-use Rattle.std.specs.Prelude.{◌≡◌, ℕ, zero, suc, ◌+◌, ◌<◌, ◌≤◌, Bool, cond, List, length, ◌==◌, slice_index}
+use Rattle.std.specs.Prelude.{◌≡◌, ℕ, zero, suc, ◌<◌, ◌≤◌, cond, List, length, ◌==◌, slice_index}
 
 -- one more than the last place below n that has the number h, and 0 where there is none
 abbrev pub latest : (ℕ → ℕ) → ℕ → ℕ → ℕ

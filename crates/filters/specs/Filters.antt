@@ -1,5 +1,5 @@
 -- What a filter means: which places it passes as it stands, and what it passes by a question. Assumes nothing.
-use Rattle.std.specs.Prelude.{◌≡◌, ℕ, zero, suc, ◌+◌, ◌-◌, ◌*◌, ◌<◌, ◌≤◌, Bool, true, false, cond, ◌&&◌, ◌||◌, List, [], length, Ok, Err, Result, ◌==◌, nat_eq, nat_le, nat_lt, slice_index}
+use Rattle.std.specs.Prelude.{◌≡◌, ℕ, ◌+◌, ◌<◌, ◌≤◌, Bool, true, cond, ◌||◌, List, [], length, Ok, Err, Result, ◌==◌, nat_eq, nat_le, nat_lt, slice_index}
 use Rattle.filters.specs.declared.refusal.Refusal.{Refusal}
 use Rattle.filters.specs.declared.refusal.Refusal.TheVariants.{QueryTooLong, BadLength, BadMismatches, MarksTooShort}
 use Rattle.filters.specs.Matching.{Question, Matches, count, sum}

@@ -1,5 +1,5 @@
 -- Substring matching with k mismatches: a query, a trace, and the windows of m samples that agree in all but k. Assumes nothing.
-use Rattle.std.specs.Prelude.{◌≡◌, ℕ, zero, suc, ◌+◌, ◌<◌, ◌≤◌, Bool, true, cond, ◌&&◌, List, [], ◌∷◌, ◌++◌, length, Ok, Err, Result, nat_le, nat_lt, slice_index}
+use Rattle.std.specs.Prelude.{◌≡◌, ℕ, zero, suc, ◌+◌, ◌<◌, ◌≤◌, Bool, cond, ◌&&◌, List, length, Ok, Err, Result, nat_le, nat_lt, slice_index}
 use Rattle.filters.specs.declared.refusal.Refusal.{Refusal}
 use Rattle.filters.specs.declared.refusal.Refusal.TheVariants.{NoWindow}
 

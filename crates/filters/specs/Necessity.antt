@@ -1,11 +1,10 @@
 -- What a match with few mismatches is sure to share.
-use Rattle.std.specs.Prelude.{◌≡◌, ℕ, zero, suc, ◌+◌, ◌-◌, ◌*◌, ◌/◌, ◌<◌, ◌≤◌, Bool, true, false, ◌&&◌, List, length, nat_lt, refl}
+use Rattle.std.specs.Prelude.{◌≡◌, ℕ, suc, ◌+◌, ◌-◌, ◌*◌, ◌<◌, ◌≤◌, true, false, List, length, nat_lt}
 use Rattle.std.proofs.Common.{sym, ap, subst, ◌∙◌, arith, add_comm, mul-one, add-one}
 use Rattle.std.proofs.Math.Arith.{digits_lt}
 use Rattle.std.proofs.lemmas.Bool.{and_from, lt-ltb}
-use Rattle.filters.specs.Matching.{Question}
 use Rattle.filters.specs.Filters.{Necessary}
-use Rattle.filters.specs.Questions.{share, same, every, misses}
+use Rattle.filters.specs.Questions.{share, same, misses}
 use Rattle.filters.specs.Counting.{decides_every}
 use Rattle.filters.specs.Pigeons.{comb, run}
 use Rattle.filters.specs.Sharing.{share_fits, share_some, same_later, misses_same}

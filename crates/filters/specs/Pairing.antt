@@ -1,11 +1,11 @@
 -- Two filters of which the second must pass a place near to what the first passes.
-use Rattle.std.specs.Prelude.{◌≡◌, ℕ, zero, suc, ◌+◌, ◌-◌, ◌<◌, ◌≤◌, Bool, true, false, ◌&&◌, ◌||◌, List, length, Ok, Err, Result, nat_le, refl}
-use Rattle.std.proofs.Common.{sym, ap, subst, ◌∙◌, ⊎_elim, arith}
+use Rattle.std.specs.Prelude.{◌≡◌, ℕ, suc, ◌+◌, ◌-◌, ◌<◌, ◌≤◌, Bool, true, false, ◌&&◌, ◌||◌, Ok, Err, Result, nat_le}
+use Rattle.std.proofs.Common.{ap, ◌∙◌, ⊎_elim, arith}
 use Rattle.std.proofs.lemmas.Bool.{cases_lt, and_from, or_left, or_right, le-leb}
 use Rattle.filters.specs.declared.refusal.Refusal.{Refusal}
 use Rattle.filters.specs.Matching.{Question}
 use Rattle.filters.specs.Filters.{Rule, Reach, Pattern, Necessary, StandsFor, Answered}
-use Rattle.filters.specs.Questions.{near, near_pattern, beside, ahead, behind, any}
+use Rattle.filters.specs.Questions.{near, near_pattern, beside, ahead, behind}
 use Rattle.filters.specs.Counting.{any_at, any_none, any_same}
 
 pub ahead_at : (p : ℕ → ℕ → Bool) (r i j d : ℕ) → d ≤ r → p (i + d) (j + d) ≡ true → ahead p r i j ≡ true

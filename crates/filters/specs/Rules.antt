@@ -1,10 +1,9 @@
 -- The rules of the filters that look tuples up. Assumes nothing.
-use Rattle.std.specs.Prelude.{◌≡◌, ℕ, zero, suc, ◌+◌, ◌-◌, ◌*◌, ◌<◌, ◌≤◌, Bool, true, false, cond, List, length, get_or, take}
+use Rattle.std.specs.Prelude.{ℕ, ◌+◌, ◌-◌, Bool, cond, length}
 use Rattle.filters.specs.Matching.{Question}
 use Rattle.filters.specs.Filters.{Rule, Reach}
 use Rattle.filters.specs.Questions.{share}
 use Rattle.filters.specs.Tuples.{tuple_number, starts, same_tuple}
-use Rattle.filters.specs.Chains.{Chained}
 
 -- how far apart the codes of a tuple lie: k + 1 in wide ones, and 1 in others
 abbrev pub gap : Bool → ℕ → ℕ

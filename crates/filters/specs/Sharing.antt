@@ -1,8 +1,7 @@
 -- What a match with few mismatches is sure to share.
-use Rattle.std.specs.Prelude.{◌≡◌, ℕ, zero, suc, ◌+◌, ◌-◌, ◌*◌, ◌/◌, ◌<◌, ◌≤◌, Bool, true, false, ◌&&◌, List, length, nat_eq, refl}
-use Rattle.std.proofs.Common.{sym, ap, subst, ◌∙◌, arith, div-mul-le_self, add_assoc, add-one}
+use Rattle.std.specs.Prelude.{◌≡◌, ℕ, zero, suc, ◌+◌, ◌*◌, ◌/◌, ◌<◌, ◌≤◌, List, nat_eq, refl}
+use Rattle.std.proofs.Common.{subst, arith, div-mul-le_self, add_assoc, add-one}
 use Rattle.std.proofs.lemmas.Nat.{le-div}
-use Rattle.std.proofs.lemmas.Bool.{and_from, le-leb, lt-ltb}
 use Rattle.filters.specs.Questions.{share, same, misses}
 use Rattle.filters.specs.Matching.{mismatches}
 

@@ -1,6 +1,6 @@
 -- A question's tuples have sizes that their numbers and their index take.
-use Rattle.std.specs.Prelude.{◌≡◌, ℕ, zero, suc, ◌+◌, ◌-◌, ◌*◌, ◌/◌, ◌<◌, ◌≤◌, Bool, true, false, cond, ◌≢◌, List, length, take, Ok, Err, Result, nat_lt, refl}
-use Rattle.std.proofs.Common.{sym, ap, subst, ◌∙◌, arith, mul-le-mul_right, mul-le-mul_left, mul-suc, mul-one, add-one, length-take-le}
+use Rattle.std.specs.Prelude.{◌≡◌, ℕ, zero, suc, ◌+◌, ◌-◌, ◌*◌, ◌<◌, ◌≤◌, Bool, true, false, cond, List, length, take, Ok, Err, Result, nat_lt, refl}
+use Rattle.std.proofs.Common.{sym, ap, subst, ◌∙◌, arith, mul-suc, mul-one, add-one, length-take-le}
 use Rattle.std.proofs.Math.Arith.{digits_lt}
 use Rattle.filters.specs.Matching.{Question}
 use Rattle.filters.specs.Questions.{question, Sizes, share}

@@ -1,13 +1,13 @@
 -- A trace has at most 4,096 samples, its file at most 36,873 bytes, and its refusals are faults of the file. Assumes nothing.
-use Rattle.std.proofs.Common.{◌≡◌, ℕ, zero, suc, ◌+◌, ◌-◌, ◌*◌, ◌≤◌, Bool, true, false, cond, ◌&&◌, eqb, ltb, leb, List, [], ◌∷◌, ◌++◌, map, length, take, drop, Ok, Err, Result, sym, refl, ap, ◌∙◌, subst, arith}
+use Rattle.std.proofs.Common.{◌≡◌, ℕ, zero, suc, ◌+◌, ◌-◌, ◌*◌, ◌≤◌, ◌&&◌, eqb, ltb, leb, List, [], ◌∷◌, ◌++◌, map, length, take, drop, Ok, Err, Result, refl, ap, ◌∙◌, subst, arith}
 use Rattle.std.proofs.lemmas.List.{length_push, take_at}
 use Rattle.std.proofs.lemmas.Bool.{and_parts, leb-true, le-leb, cond-true, cond_both}
-use Rattle.trace.specs.Told.{Told, only, fault, number_of}
+use Rattle.trace.specs.Told.{Told, number_of}
 use Rattle.trace.specs.Kinds.{kinds, pulse, stroke}
 use Rattle.trace.specs.Numbers.{Number, found, none, number, scaled}
 use Rattle.trace.specs.Files.{Read, Head, Trace, and_then, ranged, number_at, fields_at, samples_at, headed, counted, of_kind, head_of, ended, bodied, trace_file}
 use Rattle.trace.specs.Reading.{fitted, counts, SamplesOver}
-use Rattle.inspect.specs.AnyFile.{Any, pulses, strokes, as_kind, or_else, any_pulses, any_strokes, any_file, ToldInFile, longest, NoneLonger}
+use Rattle.inspect.specs.AnyFile.{Any, pulses, strokes, as_kind, or_else, any_pulses, any_strokes, ToldInFile, longest, NoneLonger}
 
 -- what is read has the property P, or is a fault of the file
 abbrev pub Good : {A : Type 0} → (A → Type 0) → Result A Told → Type 0

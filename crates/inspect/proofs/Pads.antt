@@ -1,9 +1,9 @@
 -- How the count of padded numbers goes through a file. Assumes nothing.
-use Rattle.std.proofs.Common.{◌≡◌, ℕ, suc, ◌+◌, ◌-◌, ◌<◌, ◌≤◌, Bool, true, false, ◌&&◌, eqb, leb, List, [], ◌∷◌, ◌++◌, length, get_or, drop, sym, refl, ap, ◌∙◌, not-suc-le-zero, arith, length-drop}
+use Rattle.std.proofs.Common.{◌≡◌, ℕ, ◌+◌, ◌-◌, ◌<◌, ◌≤◌, true, ◌&&◌, eqb, leb, List, [], ◌∷◌, ◌++◌, length, get_or, drop, sym, refl, ap, ◌∙◌, not-suc-le-zero, arith, length-drop}
 use Rattle.std.proofs.lemmas.List.{at_drop_more, drop_more}
 use Rattle.std.proofs.lemmas.Bool.{and_from, and_left, and_right, le-leb, lt-leb, eq-eqb, ne_eqb}
 use Rattle.std.specs.List.{flat_map}
-use Rattle.trace.specs.Numbers.{Groups, SevenBits, spelled}
+use Rattle.trace.specs.Numbers.{SevenBits, spelled}
 use Rattle.inspect.specs.Paddings.{one_if, pads, padded, last_group, is_padded, padded_numbers, AllGroups, CountsPadded}
 
 -- the neighbours at j and behind it

@@ -1,5 +1,5 @@
 -- How a text grows. Assumes nothing.
-use Rattle.std.proofs.Common.{◌≡◌, ℕ, ◌+◌, ◌-◌, ◌<◌, min, List, [], ◌∷◌, ◌++◌, map, length, get_or, take, drop, codes, decimal, sym, refl, ap, ◌∙◌, ⊎_elim, append_assoc, add-one, arith, length-drop}
+use Rattle.std.proofs.Common.{◌≡◌, ℕ, ◌+◌, ◌-◌, ◌<◌, min, List, [], ◌∷◌, ◌++◌, map, length, get_or, take, drop, codes, decimal, sym, ap, ◌∙◌, ⊎_elim, append_assoc, add-one, arith, length-drop}
 use Rattle.std.proofs.lemmas.List.{take_more, take_all, flat_map_more, map_push, take-map, drop-map}
 use Rattle.std.proofs.lemmas.Bool.{cases_lt}
 use Rattle.inspect.specs.Texts.{listed, field_line, column, in_turn, nth_field}

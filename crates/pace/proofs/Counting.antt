@@ -1,5 +1,5 @@
 -- Places counted row by row.
-use Rattle.std.proofs.Common.{◌≡◌, ℕ, suc, ◌+◌, ◌*◌, ◌≤◌, List, length, sym, refl, subst, add-one, arith}
+use Rattle.std.proofs.Common.{◌≡◌, ℕ, ◌+◌, ◌*◌, ◌≤◌, List, length, sym, refl, subst, add-one, arith}
 use Rattle.filters.specs.Matching.{sum}
 use Rattle.filters.specs.Filters.{Pattern, Marked}
 use Rattle.filters.proofs.Rowing.{count_le}

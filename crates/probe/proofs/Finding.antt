@@ -1,7 +1,6 @@
 -- Two scans find all that there is to find. Assumes nothing.
 use Rattle.std.proofs.Common.{◌≡◌, List, [], length, vec_items, sym, ◌∙◌, subst, arith}
 use Rattle.filters.specs.Filters.{Rule, Reach, Pattern, StandsFor}
-use Rattle.filters.specs.Matching.{Question}
 use Rattle.search.specs.declared.matches.Match.{Match}
 use Rattle.search.specs.declared.matches.Found.{Found}
 use Rattle.search.specs.Listing.{match_list}

@@ -1,9 +1,9 @@
 -- What a line asks for, by its parts. Assumes nothing.
-use Rattle.std.proofs.Common.{◌≡◌, ℕ, ◌≤◌, eqb, List, [], ◌∷◌, length, get_or, drop, Some, None, Option, sym, refl, ap, ◌∙◌, arith}
+use Rattle.std.proofs.Common.{◌≡◌, ℕ, ◌≤◌, List, [], ◌∷◌, length, get_or, drop, Some, None, Option, sym, refl, ap, ◌∙◌, arith}
 use Rattle.std.proofs.lemmas.Bool.{cond-true, cond-false, eq-eqb, ne_eqb}
 use Rattle.readings.specs.declared.line.Reader.{Reader}
 use Rattle.readings.specs.Hex.{hex_bytes}
-use Rattle.readings.specs.Lines.{Ask, file_of, reader_of, with_file, line_asks}
+use Rattle.readings.specs.Lines.{file_of, reader_of, with_file, line_asks}
 
 -- a word that is not the sign of the empty file is hex
 pub hex_word : (word : List ℕ) → 1 ≤ length word → (length word ≡ 1 → get_or word 0 0 ≡ 45 → ⊥) → hex_bytes word ≡ file_of word

@@ -1,7 +1,6 @@
 -- The lists of what passes a test, and entries written from the back.
-use Rattle.std.proofs.Common.{◌≡◌, ℕ, zero, suc, ◌+◌, ◌-◌, ◌*◌, ◌<◌, ◌≤◌, Bool, true, false, cond, ◌≢◌, List, [], ◌∷◌, ◌++◌, length, get_or, drop, set, sym, refl, ap, ◌∙◌, subst, ⊎_elim, append_assoc, add-zero, add-suc, suc-mul, zero-add, add-one, arith, length-append, length-set}
+use Rattle.std.proofs.Common.{◌≡◌, ℕ, zero, suc, ◌+◌, ◌-◌, ◌*◌, ◌<◌, ◌≤◌, Bool, true, false, cond, List, [], ◌∷◌, ◌++◌, length, set, refl, ap, ◌∙◌, ⊎_elim, add-zero, suc-mul, add-one, arith, length-append, length-set}
 use Rattle.std.proofs.lemmas.Bool.{cases_Bool}
-use Rattle.std.proofs.lemmas.List.{drop-set}
 use Rattle.search.specs.declared.matches.Match.{Match}
 use Rattle.filters.specs.Matching.{count, sum}
 use Rattle.search.specs.Listing.{picks, rows, written, Filled}

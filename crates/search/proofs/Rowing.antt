@@ -1,5 +1,5 @@
 -- One more window of a row, from the last down.
-use Rattle.std.proofs.Common.{◌≡◌, ℕ, zero, suc, ◌+◌, ◌-◌, ◌<◌, ◌≤◌, Bool, true, false, cond, ◌&&◌, List, ◌∷◌, length, set, sym, refl, ap, ◌∙◌, subst, arith}
+use Rattle.std.proofs.Common.{◌≡◌, ℕ, zero, suc, ◌+◌, ◌-◌, ◌<◌, ◌≤◌, Bool, true, false, ◌&&◌, List, ◌∷◌, length, set, sym, refl, ap, subst, arith}
 use Rattle.std.proofs.lemmas.Bool.{and_from, and_right}
 use Rattle.search.specs.declared.matches.Match.{Match}
 use Rattle.filters.specs.Matching.{Question, Matches, mismatches, matches_at}

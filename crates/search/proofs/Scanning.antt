@@ -1,22 +1,22 @@
 -- One more row of a scan, from the last down.
-use Rattle.std.proofs.Common.{◌≡◌, ℕ, zero, suc, ◌+◌, ◌-◌, ◌*◌, ◌<◌, ◌≤◌, Bool, true, false, cond, ◌&&◌, eqb, ltb, leb, ◌⊎◌, List, [], ◌∷◌, ◌++◌, length, get_or, take, drop, sym, refl, ap, ◌∙◌, subst, inl, inr, ⊎_elim, append-nil, zero-add, arith}
+use Rattle.std.proofs.Common.{◌≡◌, ℕ, zero, suc, ◌+◌, ◌-◌, ◌*◌, ◌<◌, ◌≤◌, Bool, true, false, ◌&&◌, eqb, ltb, leb, List, ◌++◌, length, get_or, take, drop, sym, refl, ap, ◌∙◌, subst, ⊎_elim, append-nil, zero-add, arith}
 use Rattle.std.proofs.lemmas.Bool.{cases_Bool, and_parts, and_from, and_left, and_right, both_ways, lt-ltb, le-leb}
 use Rattle.std.proofs.lemmas.List.{drop_all}
 use Rattle.search.specs.declared.matches.Match.{Match}
 use Rattle.search.specs.declared.matches.Found.{Found}
-use Rattle.filters.specs.Matching.{Question, Matches, mismatches, matches_at, pairs, count, sum}
+use Rattle.filters.specs.Matching.{Question, mismatches, matches_at, pairs, count, sum}
 use Rattle.filters.specs.Filters.{Rule, Reach, Pattern, Within, StandsFor, Necessary, Marked}
-use Rattle.filters.specs.Questions.{ahead, any}
+use Rattle.filters.specs.Questions.{ahead}
 use Rattle.filters.specs.Counting.{decides_any}
 use Rattle.filters.specs.Pairing.{ahead_at}
 use Rattle.search.specs.Listing.{picks, rows, entry, row_list, match_list, tested_row, tested_list, tested_pairs, Filled, written, back_in}
-use Rattle.search.specs.Scans.{nearer, quieter, places_of, Seen, Scanned}
+use Rattle.search.specs.Scans.{quieter, places_of, Seen, Scanned}
 use Rattle.search.specs.Words.{Whole}
-use Rattle.search.proofs.Sums.{sum_zero, sum_same, sum_const_le, count_le, count_same, differ_le, bounded}
+use Rattle.search.proofs.Sums.{sum_same, sum_const_le, count_le, count_same, differ_le, bounded}
 use Rattle.search.proofs.Wording.{list_whole}
 use Rattle.search.proofs.Matched.{matches_parts, matches_not}
 use Rattle.search.proofs.Picking.{picks_none, picks_le, picks_count, picks_same, rows_sum, rows_more, rows_le, rows_same, filled_none, filled_join}
-use Rattle.search.proofs.Telling.{Told, Quiet, told_step, told_skip, told_start, told_ahead, quiet_step}
+use Rattle.search.proofs.Telling.{Told, Quiet, told_start, told_ahead, quiet_step}
 
 -- the list of a row by the filter as it stands
 abbrev pub seen_row : Pattern → (ℕ → ℕ → Bool) → Question → List ℕ → ℕ → ℕ → List Match

@@ -1,7 +1,7 @@
 -- Sums and counts below a bound; the double counting; the mismatches of a shorter window.
-use Rattle.std.proofs.Common.{◌≡◌, ℕ, zero, suc, ◌+◌, ◌-◌, ◌*◌, ◌<◌, ◌≤◌, Bool, true, false, cond, eqb, ◌≢◌, List, length, get_or, sym, refl, ap, ◌∙◌, subst, ⊎_elim, add-zero, add-suc, suc-mul, mul_comm, zero-add, zero-mul, add-one, arith}
+use Rattle.std.proofs.Common.{◌≡◌, ℕ, zero, suc, ◌+◌, ◌-◌, ◌*◌, ◌<◌, ◌≤◌, Bool, true, false, cond, eqb, ◌≢◌, List, get_or, refl, ap, subst, ⊎_elim, add-zero, add-suc, suc-mul, zero-add, arith}
 use Rattle.std.proofs.lemmas.Bool.{cases_Bool, cases_eq, eq-eqb}
-use Rattle.filters.specs.Matching.{Question, Matches, mismatches, count, sum}
+use Rattle.filters.specs.Matching.{Question, mismatches, count, sum}
 use Rattle.search.specs.Theorems.{Bounded, KeptLonger}
 
 -- a test as a number

@@ -1,10 +1,10 @@
 -- The list of all matches is whole.
-use Rattle.std.proofs.Common.{◌≡◌, ℕ, zero, suc, ◌+◌, ◌-◌, ◌<◌, ◌≤◌, Bool, true, false, cond, ◌⊎◌, List, [], ◌∷◌, ◌++◌, length, get_or, sym, refl, ap, ◌∙◌, subst, inl, inr, ⊎_elim, arith}
-use Rattle.std.proofs.lemmas.Bool.{cases_Bool, cases_eq, both_ways}
+use Rattle.std.proofs.Common.{◌≡◌, ℕ, zero, suc, ◌+◌, ◌<◌, ◌≤◌, Bool, true, false, cond, ◌⊎◌, List, [], ◌∷◌, ◌++◌, length, get_or, sym, refl, ap, ◌∙◌, subst, inl, inr, ⊎_elim, arith}
+use Rattle.std.proofs.lemmas.Bool.{cases_Bool, cases_eq}
 use Rattle.search.specs.declared.matches.Match.{Match}
-use Rattle.filters.specs.Matching.{Question, Matches, mismatches, matches_at}
+use Rattle.filters.specs.Matching.{Question, Matches, matches_at}
 use Rattle.search.specs.Listing.{picks, rows, entry, row_list, match_list}
-use Rattle.search.specs.Words.{no_match, Before, Whole, ListWhole}
+use Rattle.search.specs.Words.{no_match, Before, ListWhole}
 use Rattle.search.proofs.Matched.{matches_true, matches_parts}
 
 abbrev pub In : {A : Type 0} → A → List A → Type 0

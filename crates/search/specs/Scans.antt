@@ -1,5 +1,5 @@
 -- What a scan of one trace answers. Assumes nothing.
-use Rattle.std.specs.Prelude.{◌≡◌, ℕ, zero, suc, ◌+◌, ◌-◌, ◌*◌, ◌<◌, ◌≤◌, Bool, true, cond, ◌≢◌, List, [], ◌∷◌, ◌++◌, length, Ok, Err, Result, ◌==◌, nat_le, nat_lt}
+use Rattle.std.specs.Prelude.{◌≡◌, ℕ, suc, ◌+◌, ◌*◌, ◌<◌, ◌≤◌, Bool, cond, ◌≢◌, List, length, Ok, Err, Result, ◌==◌, nat_le, nat_lt}
 use Rattle.search.specs.declared.refusal.Refusal.{Refusal}
 use Rattle.search.specs.declared.refusal.Refusal.TheVariants.{TraceTooLong, OtherQuery, MarksTooShort}
 use Rattle.filters.specs.Matching.{Question, pairs, count, sum}

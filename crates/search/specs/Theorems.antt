@@ -1,5 +1,5 @@
 -- Two laws of searching with a filter. Assumes nothing.
-use Rattle.std.specs.Prelude.{◌≡◌, ℕ, zero, suc, ◌+◌, ◌*◌, ◌<◌, ◌≤◌, Bool, true, List, length}
+use Rattle.std.specs.Prelude.{◌≡◌, ℕ, suc, ◌+◌, ◌*◌, ◌<◌, ◌≤◌, Bool, true, List}
 use Rattle.filters.specs.Matching.{Question, Matches, count, sum}
 
 -- double counting, over any two tests of places

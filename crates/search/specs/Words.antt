@@ -1,5 +1,5 @@
 -- What the list of all matches is, in the subject's own words. Assumes nothing.
-use Rattle.std.specs.Prelude.{◌≡◌, ℕ, zero, suc, ◌+◌, ◌<◌, ◌≤◌, Bool, ◌⊎◌, List, length, get_or, slice_index_or}
+use Rattle.std.specs.Prelude.{◌≡◌, ℕ, suc, ◌<◌, Bool, ◌⊎◌, List, length, get_or, slice_index_or}
 use Rattle.search.specs.declared.matches.Match.{Match}
 use Rattle.filters.specs.Matching.{Question, Matches}
 use Rattle.search.specs.Listing.{match_list}

@@ -1,5 +1,5 @@
 -- How the steps of reading a file chain: the first fault stands. Assumes nothing.
-use Rattle.std.proofs.Common.{◌≡◌, ℕ, ◌<◌, ◌≤◌, Bool, true, false, cond, eqb, List, [], length, take, Ok, Err, Result, sym, refl, ap, ◌∙◌, subst, arith}
+use Rattle.std.proofs.Common.{◌≡◌, ℕ, ◌<◌, ◌≤◌, Bool, true, false, cond, List, [], length, take, Ok, Err, Result, sym, ap, ◌∙◌, subst, arith}
 use Rattle.std.proofs.lemmas.Bool.{cond-true, cond-false, eq-eqb, le-leb, lt-leb}
 use Rattle.trace.specs.declared.refusal.Fault.{Fault}
 use Rattle.trace.specs.declared.file.Header.{Header}
@@ -7,7 +7,7 @@ use Rattle.trace.specs.Told.{Told, only, fault}
 use Rattle.trace.specs.Kinds.{kinds, in_range, made}
 use Rattle.trace.specs.Refusals.{answer, told_fault}
 use Rattle.trace.specs.Reading.{Verified}
-use Rattle.trace.specs.Files.{Read, Head, Trace, and_then, number_at, counted, headed, of_kind, head_of, samples_at, ended, bodied, trace_file}
+use Rattle.trace.specs.Files.{Read, Head, and_then, number_at, counted, headed, of_kind, head_of, samples_at, ended, bodied, trace_file}
 
 module _ {A B : Type 0} (f : A → Result B Told) where
   pub then_ok : {x : Result A Told} {a : A} → x ≡ Ok a → and_then x f ≡ f a

@@ -1,10 +1,10 @@
 -- What the reader of numbers rests on. Assumes nothing.
-use Rattle.std.proofs.Common.{◌≡◌, ℕ, zero, suc, ◌+◌, ◌-◌, ◌*◌, ◌<◌, ◌≤◌, Bool, true, false, cond, ltb, List, [], ◌∷◌, ◌++◌, length, get_or, drop, IfOk, Ok, Err, Result, sym, refl, ap, ◌∙◌, subst, not-suc-le-zero, add-zero, arith}
+use Rattle.std.proofs.Common.{◌≡◌, ℕ, zero, suc, ◌+◌, ◌-◌, ◌*◌, ◌<◌, ◌≤◌, ltb, List, [], ◌∷◌, ◌++◌, length, get_or, drop, IfOk, Ok, Err, Result, sym, ap, ◌∙◌, subst, not-suc-le-zero, add-zero, arith}
 use Rattle.std.proofs.lemmas.List.{at_drop_more, at_drop_all}
 use Rattle.std.proofs.lemmas.Bool.{cond-true, cond-false, cond_both, lt-ltb, le-ltb}
 use Rattle.trace.specs.declared.number.Found.{Found}
 use Rattle.trace.specs.declared.refusal.Cause.{Cause}
-use Rattle.trace.specs.Numbers.{Number, found, none, number, number_told, scaled, spelled, value_of, SevenBits, Groups, ReadsBack}
+use Rattle.trace.specs.Numbers.{Number, found, none, number, number_told, scaled, spelled, value_of, SevenBits, ReadsBack}
 
 -- the byte at i, where at most n + 1 are left
 module _ (bs : List ℕ) (n i : ℕ) where

@@ -1,11 +1,11 @@
 -- A file that has a first fault is refused with it. Assumes nothing.
-use Rattle.std.proofs.Common.{◌≡◌, ℕ, zero, suc, ◌+◌, ◌-◌, ◌<◌, ◌≤◌, Bool, true, false, ◌&&◌, leb, ◌⊎◌, List, [], ◌∷◌, ◌++◌, length, take, drop, Ok, Err, Result, sym, refl, ap, ◌∙◌, subst, inl, inr, ⊎_elim, not-suc-le-zero, arith, length-drop}
+use Rattle.std.proofs.Common.{◌≡◌, ℕ, zero, suc, ◌+◌, ◌-◌, ◌<◌, ◌≤◌, leb, List, [], ◌∷◌, ◌++◌, length, take, drop, Err, sym, refl, ap, ◌∙◌, subst, ⊎_elim, not-suc-le-zero, arith, length-drop}
 use Rattle.std.proofs.lemmas.Bool.{cond-false, and_left, and_right, lt-leb, le-ltb, ne_eqb}
 use Rattle.trace.specs.Told.{Told, fault}
 use Rattle.trace.specs.Kinds.{kinds, Within}
-use Rattle.trace.specs.Numbers.{Number, found, none, number, scaled}
-use Rattle.trace.specs.Files.{Read, Head, Trace, and_then, ranged, number_at, fields_at, samples_at, of_kind, head_of, bodied, trace_file}
-use Rattle.trace.specs.Spelling.{Begins, Spells, flat, AllWithin, Machine, Count, Fair, numbers, Due, due_kind, due_machine, due_count, due_field, Follow, Wrong, cut, long, range, FirstFault, wrong, other, left}
+use Rattle.trace.specs.Numbers.{none, number, scaled}
+use Rattle.trace.specs.Files.{ranged, number_at, fields_at, samples_at, of_kind, trace_file}
+use Rattle.trace.specs.Spelling.{Spells, flat, numbers, Due, due_kind, due_machine, due_count, due_field, Follow, Wrong, cut, long, range, FirstFault, wrong, other, left}
 use Rattle.trace.proofs.Chains.{then_ok, then_err, head_broke, head_uncounted, no_head, no_samples, left_over}
 use Rattle.trace.proofs.Spelling.{begins_found, number_gives, fields_give, spells_split, samples_give, head_gives, upto}
 

@@ -1,10 +1,10 @@
 -- What reading a file answers is what the file holds, or its first fault. Assumes nothing.
-use Rattle.std.proofs.Common.{◌≡◌, ℕ, zero, suc, ◌+◌, ◌-◌, ◌*◌, ◌<◌, ◌≤◌, Bool, true, false, cond, ◌&&◌, eqb, ltb, leb, ◌⊎◌, List, [], ◌∷◌, ◌++◌, length, get_or, take, drop, Ok, Err, Result, sym, refl, ap, ◌∙◌, subst, inl, inr, ⊎_elim, append_assoc, append-nil, not-suc-le-zero, arith, length-append, length-drop, get_or-drop}
+use Rattle.std.proofs.Common.{◌≡◌, ℕ, zero, suc, ◌+◌, ◌-◌, ◌*◌, ◌<◌, ◌≤◌, ◌&&◌, eqb, ltb, leb, ◌⊎◌, List, [], ◌∷◌, ◌++◌, length, get_or, take, drop, Ok, Err, Result, sym, refl, ap, ◌∙◌, subst, inl, inr, ⊎_elim, append_assoc, append-nil, not-suc-le-zero, arith, length-append, length-drop, get_or-drop}
 use Rattle.std.proofs.lemmas.List.{drop-drop, drop_all}
 use Rattle.std.proofs.lemmas.Bool.{cond_both, and_parts, and_cases, leb-true, leb-false, ltb-true, ltb-false, eqb-true, eqb-false}
 use Rattle.trace.specs.Told.{Told, fault}
 use Rattle.trace.specs.Kinds.{kinds, Within}
-use Rattle.trace.specs.Numbers.{Number, found, none, number, scaled, spelled, value_of, SevenBits, Groups}
+use Rattle.trace.specs.Numbers.{Number, found, none, number, scaled, spelled, value_of, SevenBits}
 use Rattle.trace.specs.Files.{Read, Head, Trace, and_then, ranged, number_at, fields_at, samples_at, headed, counted, of_kind, head_of, ended, bodied, trace_file}
 use Rattle.trace.specs.Spelling.{Begins, Spells, flat, AllWithin, Machine, Count, Fair, numbers, Holds, Due, due_kind, due_machine, due_count, due_field, Follow, Wrong, cut, long, range, FirstFault, wrong, other, left, Meant, ReadOrRefused}
 use Rattle.trace.proofs.Spelling.{spelled_length, begins_found, begins_rest, begins_lies, held}

@@ -1,9 +1,9 @@
 -- What reading a whole file comes to. Assumes nothing.
-use Rattle.std.proofs.Common.{◌≡◌, ℕ, ◌+◌, ◌<◌, ◌≤◌, List, [], ◌∷◌, ◌++◌, map, length, take, drop, Ok, Err, Result, sym, refl, ap, ◌∙◌, subst, map-id, arith, take-append-drop}
+use Rattle.std.proofs.Common.{◌≡◌, ℕ, ◌<◌, ◌≤◌, List, [], ◌++◌, map, length, take, drop, Ok, Err, sym, ap, ◌∙◌, subst, map-id, arith, take-append-drop}
 use Rattle.trace.specs.declared.file.Header.{Header}
-use Rattle.trace.specs.Files.{Read, Head, Trace, head_of, samples_at, trace_file}
+use Rattle.trace.specs.Files.{head_of, samples_at, trace_file}
 use Rattle.std.proofs.lemmas.Bool.{cond-true, cond-false, le-leb, lt-leb}
-use Rattle.trace.specs.Told.{Told, only}
+use Rattle.trace.specs.Told.{only}
 use Rattle.trace.specs.Reading.{head, Sound, codes_over, SamplesOver, fitted, counts}
 use Rattle.trace.proofs.Chains.{whole}
 use Rattle.trace.proofs.Walks.{Samples, Written, samples_all}

@@ -1,11 +1,11 @@
 -- A file that spells the numbers of a trace is read as that trace. Assumes nothing.
-use Rattle.std.proofs.Common.{◌≡◌, ℕ, zero, suc, ◌+◌, ◌-◌, ◌<◌, ◌≤◌, true, List, [], ◌∷◌, ◌++◌, length, drop, Ok, Err, Result, sym, refl, ap, ◌∙◌, subst, append_assoc, append-nil, arith, length-append, length-drop}
+use Rattle.std.proofs.Common.{◌≡◌, ℕ, suc, ◌+◌, ◌≤◌, List, [], ◌∷◌, ◌++◌, length, drop, Ok, Result, sym, refl, ap, ◌∙◌, subst, append_assoc, append-nil, arith, length-append, length-drop}
 use Rattle.std.proofs.lemmas.List.{drop-drop, drop_at}
-use Rattle.std.proofs.lemmas.Bool.{cond-true, and_from, le-leb, eq-eqb}
+use Rattle.std.proofs.lemmas.Bool.{cond-true, and_from, le-leb}
 use Rattle.trace.specs.Told.{Told}
 use Rattle.trace.specs.Kinds.{kinds, Within}
-use Rattle.trace.specs.Numbers.{Number, found, number, spelled, value_of, Groups}
-use Rattle.trace.specs.Files.{Read, Head, Trace, and_then, ranged, number_at, fields_at, samples_at, headed, counted, of_kind, head_of, ended, bodied, trace_file}
+use Rattle.trace.specs.Numbers.{found, number, spelled}
+use Rattle.trace.specs.Files.{Read, Trace, ranged, number_at, fields_at, samples_at, head_of, trace_file}
 use Rattle.trace.specs.Spelling.{Begins, Spells, flat, AllWithin, Machine, Count, Fair, numbers, Holds}
 use Rattle.trace.proofs.Digits.{number_spelled}
 use Rattle.trace.proofs.Chains.{then_ok, head_whole, whole}

@@ -1,7 +1,7 @@
 -- Worked examples of trace files. Assumes nothing.
 use Rattle.std.specs.Prelude.{◌≡◌, ℕ, List, [], ◌∷◌, Ok, Err, Result}
 use Rattle.trace.specs.Told.{Told, fault}
-use Rattle.trace.specs.Kinds.{Kind, pulse, stroke}
+use Rattle.trace.specs.Kinds.{pulse, stroke}
 use Rattle.trace.specs.Files.{Trace, trace_file}
 
 abbrev pub read_as_pulses : List ℕ → Result Trace Told

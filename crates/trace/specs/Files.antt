@@ -1,5 +1,5 @@
 -- The trace file: the kind's number, the machine, the count of samples, then each sample's fields. Assumes nothing.
-use Rattle.std.specs.Prelude.{ℕ, zero, suc, ◌+◌, Bool, true, false, cond, ◌&&◌, List, [], ◌∷◌, ◌++◌, length, drop, Ok, Err, Result, ◌==◌, nat_le}
+use Rattle.std.specs.Prelude.{ℕ, zero, suc, ◌+◌, cond, ◌&&◌, List, [], ◌∷◌, ◌++◌, length, drop, Ok, Err, Result, ◌==◌, nat_le}
 use Rattle.trace.specs.Told.{Told, fault}
 use Rattle.trace.specs.Kinds.{kinds}
 use Rattle.trace.specs.Numbers.{Number, found, none, number}

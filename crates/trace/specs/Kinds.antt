@@ -1,5 +1,5 @@
 -- What a kind of sample means. Assumes nothing.
-use Rattle.std.specs.Prelude.{◌≡◌, ℕ, ◌+◌, ◌*◌, ◌<◌, ◌≤◌, Bool, true, false, cond, ◌&&◌, List, [], ◌∷◌, length, take, Ok, Err, Result, nat_eq, nat_le, slice_index}
+use Rattle.std.specs.Prelude.{ℕ, ◌+◌, ◌*◌, ◌≤◌, Bool, true, false, cond, ◌&&◌, List, [], ◌∷◌, length, take, Ok, Err, Result, nat_eq, nat_le, slice_index}
 use Rattle.trace.specs.declared.pulse.Pulse.{Pulse}
 use Rattle.trace.specs.declared.stroke.Stroke.{Stroke}
 use Rattle.trace.specs.Told.{Told, only}

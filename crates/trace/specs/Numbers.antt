@@ -1,5 +1,5 @@
 -- Numbers in a trace file: groups of seven bits, the lowest first. Assumes nothing.
-use Rattle.std.specs.Prelude.{◌≡◌, ℕ, zero, suc, ◌+◌, ◌-◌, ◌*◌, ◌<◌, ◌≤◌, Bool, true, false, cond, List, [], ◌∷◌, ◌++◌, length, Ok, Err, Result, nat_lt}
+use Rattle.std.specs.Prelude.{◌≡◌, ℕ, zero, suc, ◌+◌, ◌-◌, ◌*◌, ◌<◌, ◌≤◌, cond, List, [], ◌∷◌, ◌++◌, length, Ok, Err, Result, nat_lt}
 use Rattle.trace.specs.declared.refusal.Cause.{Cause}
 use Rattle.trace.specs.declared.number.Found.{Found}
 use Rattle.trace.specs.Refusals.{cause_number}

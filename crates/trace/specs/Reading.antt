@@ -4,7 +4,7 @@ use Rattle.trace.specs.declared.refusal.Fault.{Fault}
 use Rattle.trace.specs.declared.file.Header.{Header}
 use Rattle.trace.specs.Told.{Told, only}
 use Rattle.trace.specs.Refusals.{told_fault}
-use Rattle.trace.specs.Files.{Read, Head, Trace, trace_file, samples_at}
+use Rattle.trace.specs.Files.{Head, Trace, trace_file, samples_at}
 
 -- a header of the code as the definition has it
 abbrev pub head : Header → Head

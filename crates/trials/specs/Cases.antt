@@ -1,5 +1,5 @@
 -- How large cases are. Assumes nothing.
-use Rattle.std.specs.Prelude.{ℕ, ◌<◌, ◌≤◌, vec_len}
+use Rattle.std.specs.Prelude.{◌<◌, ◌≤◌, vec_len}
 use Rattle.trials.specs.declared.cases.Case.{Case}
 
 -- a query and a trace that are not empty and not long, and a question that no filter refuses

@@ -1,4 +1,4 @@
-use Rattle.std.proofs.Common.{◌≡◌, get_or, refl, arith, rules}
+use Rattle.std.proofs.Common.{get_or, refl, arith}
 use Rattle.filters.proofs.Chaining.{chained_none, chained_more}
 use Rattle.filters.proofs.index.chain.Goals as goal
 

@@ -1,4 +1,4 @@
-use Rattle.std.proofs.Common.{◌≡◌, get_or}
+use Rattle.std.proofs.Common.{get_or}
 use Rattle.filters.specs.Chains.{Chained}
 use Rattle.filters.proofs.index.chain.Given as goal
 

@@ -1,4 +1,4 @@
-use Rattle.std.proofs.Common.{◌≡◌, ℕ, ◌+◌, ◌-◌, ◌*◌, ◌%◌, ◌<◌, length, get_or, sym, ap, ◌∙◌, arith, rules}
+use Rattle.std.proofs.Common.{ℕ, ◌-◌, ◌<◌, length, get_or, ◌∙◌, arith}
 use Rattle.filters.proofs.Digits.{number_small}
 use Rattle.filters.proofs.Numbering.{filling_more, rolls_to}
 use Rattle.filters.proofs.number.number_all.Goals as goal

@@ -1,5 +1,3 @@
-use Rattle.std.proofs.Common.{◌≡◌, ℕ, ◌<◌, ◌≤◌, length, get_or}
-use Rattle.filters.specs.Tuples.{tuple_number}
 use Rattle.filters.proofs.Numbering.{Filling}
 use Rattle.filters.proofs.number.number_all.Given as goal
 

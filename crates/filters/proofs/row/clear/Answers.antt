@@ -1,4 +1,4 @@
-use Rattle.std.proofs.Common.{refl, arith}
+use Rattle.std.proofs.Common.{arith}
 use Rattle.filters.proofs.Walking.{cleared_more}
 use Rattle.filters.proofs.row.clear.Goals as goal
 

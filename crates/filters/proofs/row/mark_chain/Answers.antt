@@ -1,4 +1,4 @@
-use Rattle.std.proofs.Common.{arith, rules}
+use Rattle.std.proofs.Common.{rules}
 use Rattle.filters.proofs.Walking.{tuple_begins, tuple_falls, tuple_marks, tuple_passes, tuple_few, tuple_ends}
 use Rattle.filters.proofs.row.mark_chain.Goals as goal
 use Rattle.filters.proofs.row.mark_chain.Goals.{then-alike, else-alike}

@@ -1,8 +1,7 @@
-use Rattle.std.proofs.Common.{◌≡◌, ◌≤◌, length, drop, Err, sym, ap, ◌∙◌, arith}
+use Rattle.std.proofs.Common.{◌≤◌, length, drop, Err, sym, ap, ◌∙◌, arith}
 use Rattle.trace.specs.Refusals.{told}
 use Rattle.trace.specs.Reading.{head}
 use Rattle.inspect.proofs.Faults.{refused, in_file, read}
-use Rattle.inspect.proofs.any_kind.read_kind.Given as given
 use Rattle.inspect.proofs.any_kind.read_kind.Goals as goal
 
 pub fault_of-requires : goal.fault_of-requires

@@ -1,4 +1,4 @@
-use Rattle.std.proofs.Common.{◌≡◌, ◌+◌, ◌-◌, sym, ap, ◌∙◌}
+use Rattle.std.proofs.Common.{◌+◌, ◌-◌, sym, ap, ◌∙◌}
 use lib.ListN.{length-map}
 use Rattle.inspect.specs.Texts.{block_head}
 use Rattle.inspect.proofs.Writing.{added}

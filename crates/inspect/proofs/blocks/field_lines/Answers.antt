@@ -1,4 +1,4 @@
-use Rattle.std.proofs.Common.{◌≡◌, [], map, length, get_or, sym, ap, ◌∙◌, arith}
+use Rattle.std.proofs.Common.{◌≡◌, [], map, length, get_or, ap, ◌∙◌, arith}
 use Rattle.inspect.specs.Labels.{labels}
 use Rattle.inspect.specs.Texts.{in_turn, nth_field}
 use Rattle.inspect.proofs.Writing.{added, in_turn_more, field_is}

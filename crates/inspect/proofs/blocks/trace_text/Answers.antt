@@ -1,4 +1,4 @@
-use Rattle.std.proofs.Common.{◌≡◌, map, length, vec_items, sym, ap, ◌∙◌}
+use Rattle.std.proofs.Common.{map, length, vec_items, sym, ap, ◌∙◌}
 use lib.ListN.{length-map}
 use Rattle.inspect.specs.Labels.{labels}
 use Rattle.inspect.specs.Texts.{title_line, count_line, blocks}

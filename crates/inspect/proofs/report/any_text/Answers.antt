@@ -1,4 +1,4 @@
-use Rattle.std.proofs.Common.{◌≡◌, string_bytes, sym, ap}
+use Rattle.std.proofs.Common.{string_bytes, sym, ap}
 use Rattle.inspect.specs.declared.any_kind.AnyTrace.TheVariants.{Pulses, Strokes}
 use Rattle.inspect.specs.AnyFile.{any_of}
 use Rattle.inspect.specs.Reports.{any_text}

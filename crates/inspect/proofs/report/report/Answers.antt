@@ -1,4 +1,4 @@
-use Rattle.std.proofs.Common.{◌≡◌, Ok, Err, string_bytes, sym, refl, ap, ◌∙◌, arith}
+use Rattle.std.proofs.Common.{Ok, Err, string_bytes, sym, refl, ap, ◌∙◌, arith}
 use Rattle.trace.specs.Refusals.{answer, told_fault}
 use Rattle.inspect.specs.AnyFile.{any_of}
 use Rattle.inspect.specs.Paddings.{padded}

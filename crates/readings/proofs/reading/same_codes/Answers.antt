@@ -1,4 +1,4 @@
-use Rattle.std.proofs.Common.{◌≡◌, ℕ, ◌<◌, length, sym, ap, ◌∙◌, arith}
+use Rattle.std.proofs.Common.{ℕ, sym, ap, ◌∙◌, arith}
 use Rattle.readings.proofs.Codes.{unlike_lengths, unlike_at, alike_more, alike_all}
 use Rattle.readings.proofs.reading.same_codes.Given.{Over}
 use Rattle.readings.proofs.reading.same_codes.Goals as goal

@@ -1,4 +1,4 @@
-use Rattle.std.proofs.Common.{◌+◌, ◌<◌, ◌≤◌, sym, arith}
+use Rattle.std.proofs.Common.{◌+◌, sym, arith}
 use Rattle.search.proofs.Comparing.{agrees_more, differs_more}
 use Rattle.search.proofs.Sums.{mismatches_shorter}
 use Rattle.search.proofs.compare.compare.Goals as goal

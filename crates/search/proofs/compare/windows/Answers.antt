@@ -1,4 +1,4 @@
-use Rattle.std.proofs.Common.{◌≡◌, ℕ, ◌+◌, ◌-◌, ◌<◌, ◌≤◌, leb, length, get_or, refl, arith}
+use Rattle.std.proofs.Common.{◌+◌, ◌-◌, leb, length, get_or, refl, arith}
 use Rattle.std.proofs.lemmas.Bool.{le-leb, lt-leb, and_left, and_right}
 use Rattle.filters.specs.Matching.{Question}
 use Rattle.search.proofs.Matched.{matches_not}

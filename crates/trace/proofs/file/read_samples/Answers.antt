@@ -1,4 +1,4 @@
-use Rattle.std.proofs.Common.{◌≡◌, ◌≤◌, length, sym, refl, ap, ◌∙◌, subst, arith}
+use Rattle.std.proofs.Common.{◌≤◌, length, sym, refl, ap, subst, arith}
 use Rattle.trace.specs.Reading.{SamplesOver, counts}
 use Rattle.trace.proofs.Reading.{fits, too_short, counted}
 use Rattle.trace.proofs.file.read_samples.Goals as goal

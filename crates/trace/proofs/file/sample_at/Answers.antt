@@ -1,9 +1,8 @@
-use Rattle.std.proofs.Common.{◌≡◌, ℕ, ◌≤◌, true, List, [], ◌∷◌, length, get_or, take, Ok, sym, refl, ap, ◌∙◌, subst, arith}
+use Rattle.std.proofs.Common.{◌≡◌, ℕ, ◌≤◌, true, List, [], ◌∷◌, length, get_or, take, Ok, sym, ap, ◌∙◌, arith}
 use Rattle.std.proofs.lemmas.Result.{err_from_is_err_and, IfOk-from_err}
 use Rattle.trace.specs.Kinds.{in_range}
 use Rattle.trace.proofs.Chains.{broke, made_in_range, made_fields}
 use Rattle.trace.proofs.Walks.{Fields, fields_fault, fields_more, fields_all, ranges, all_four}
-use Rattle.trace.proofs.file.sample_at.Given as given
 use Rattle.trace.proofs.file.sample_at.Goals as goal
 
 pub returns-in_err-numeral : goal.returns-in_err-numeral

@@ -1,6 +1,6 @@
-use Rattle.std.proofs.Common.{◌≡◌, ℕ, ◌≤◌, List, [], length, Ok, sym, ◌∙◌, arith}
+use Rattle.std.proofs.Common.{◌≡◌, Ok, sym, arith}
 use Rattle.std.proofs.lemmas.Result.{err_from_is_err_and}
-use Rattle.trace.specs.Files.{Read, head_of, samples_at}
+use Rattle.trace.specs.Files.{head_of}
 use Rattle.trace.specs.Reading.{head}
 use Rattle.trace.proofs.Chains.{no_samples, left_over, refused_by}
 use Rattle.trace.proofs.Walks.{samples_none, samples_fault, samples_more, samples_all}

@@ -1,4 +1,4 @@
-use Rattle.std.proofs.Common.{◌≡◌, ℕ, List, sym, refl, arith}
+use Rattle.std.proofs.Common.{ℕ, sym, arith}
 use Rattle.trace.proofs.Walks.{filling_none, filling_more, filling_fault, filling_all}
 use Rattle.trace.proofs.Reading.{codes_written}
 use Rattle.trace.proofs.file.write_codes.Goals as goal

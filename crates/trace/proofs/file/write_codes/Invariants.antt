@@ -1,4 +1,4 @@
-use Rattle.std.proofs.Common.{ℕ, List}
+use Rattle.std.proofs.Common.{ℕ}
 use Rattle.trace.proofs.Walks.{Filling}
 use Rattle.trace.proofs.file.write_codes.Given as goal
 

@@ -1,4 +1,4 @@
-use Rattle.std.proofs.Common.{◌≡◌, ℕ, ◌-◌, ◌<◌, ◌≤◌, List, length, get_or, drop, sym, ap, ◌∙◌, arith}
+use Rattle.std.proofs.Common.{◌≡◌, ℕ, ◌-◌, ◌≤◌, List, length, get_or, drop, sym, ap, ◌∙◌, arith}
 use Rattle.trace.specs.Numbers.{Number, number, scaled}
 use Rattle.trace.proofs.Digits.{number_cut, number_last, number_more}
 use Rattle.trace.proofs.number.decode.Goals as goal

@@ -1,4 +1,4 @@
-use Rattle.std.proofs.Common.{true, false}
+use Rattle.std.proofs.Common.{false}
 use Rattle.filters.specs.Questions.{question}
 use Rattle.filters.specs.Sizing.{rowed_kind}
 use Rattle.filters.proofs.continuous.ContinuousFilter.mark_row.Goals as goal

@@ -1,5 +1,4 @@
-use Rattle.std.proofs.Common.{ℕ, Bool, true, false, sym, subst, arith}
-use Rattle.filters.specs.Filters.{Marked}
+use Rattle.std.proofs.Common.{ℕ, Bool, true, false, sym, arith}
 use Rattle.filters.proofs.Rowing.{count_le, marked_more}
 use Rattle.filters.proofs.filter.Filter.mark_row.Goals as goal
 use Rattle.filters.proofs.filter.Filter.mark_row.Goals.{then-passes, else-passes}

@@ -1,4 +1,4 @@
-use Rattle.std.proofs.Common.{true, false}
+use Rattle.std.proofs.Common.{true}
 use Rattle.filters.specs.Questions.{question}
 use Rattle.filters.specs.Sizing.{rowed_kind}
 use Rattle.filters.proofs.gapped.GappedFilter.mark_row.Goals as goal

@@ -1,4 +1,4 @@
-use Rattle.std.proofs.Common.{◌≡◌, ℕ, length, get_or, refl, arith, rules}
+use Rattle.std.proofs.Common.{◌≡◌, length, get_or, arith}
 use Rattle.filters.specs.Tuples.{tuple_number, starts}
 use Rattle.filters.proofs.Digits.{number_small}
 use Rattle.filters.proofs.Chaining.{chained_ext}

@@ -1,4 +1,4 @@
-use Rattle.std.proofs.Common.{◌≡◌, ℕ, ◌<◌, ap, arith, rules}
+use Rattle.std.proofs.Common.{◌≡◌, ◌<◌, ap, arith}
 use Rattle.filters.specs.Matching.{Question}
 use Rattle.filters.specs.Sizing.{sized_at, long_at, verdict_some}
 use Rattle.filters.proofs.table.Table.of.Goals as goal

@@ -1,4 +1,4 @@
-use Rattle.std.proofs.Common.{ℕ, ◌<◌, arith, rules}
+use Rattle.std.proofs.Common.{◌<◌, arith}
 use Rattle.filters.specs.Sizing.{sized_at, long_at, chained_at}
 use Rattle.filters.proofs.table.Table.row.Goals as goal
 

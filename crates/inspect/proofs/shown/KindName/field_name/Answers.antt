@@ -1,4 +1,4 @@
-use Rattle.std.proofs.Common.{◌≡◌, [], get_or, sym, ap, ◌∙◌}
+use Rattle.std.proofs.Common.{[], get_or, sym, ap, ◌∙◌}
 use Rattle.inspect.specs.Labels.{labels, stroke_labels}
 use Rattle.inspect.proofs.shown.KindName.field_name.Goals as goal
 
