@@ -1,8 +1,8 @@
 //! Slips, against which traces are lent.
-ghost use Rattle.std.specs.Prelude.{◌≡◌};
+ghost use Rattle.std.specs.Prelude.{◌≡◌, ◌<◌};
 
 /// The receipt for one loan of a trace. It is given back to the collection or written off, and never just let fall: its
-/// `drop` asks for a slip without a mark, and no collection that lends has the mark 0.
+/// `drop` asks for a mark above 65,535, and no collection has one: an opening takes 1 to 65,535, a refused one leaves 0.
 pub struct Slip {
     mark: u32,
     number: u32,
@@ -10,7 +10,7 @@ pub struct Slip {
 
 impl Drop for Slip {
     fn drop(self)
-        requires { self.mark ≡ 0 }
+        requires { 65535 < self.mark }
     {
         let Slip { mark: _, number: _ } = self;
     }
