@@ -1,13 +1,18 @@
 -- How the steps of reading a file chain: the first fault stands. Assumes nothing.
-use Rattle.std.proofs.Common.{◌≡◌, ℕ, ◌<◌, ◌≤◌, Bool, true, false, cond, List, [], length, take, Ok, Err, Result, sym, ap, ◌∙◌, subst, arith}
-use Rattle.std.proofs.lemmas.Bool.{cond-true, cond-false, eq-eqb, le-leb, lt-leb}
+use Rattle.std.proofs.Common.{◌≡◌, ℕ, zero, suc, ◌<◌, ◌≤◌, ◌&&◌, leb, ◌≢◌, true, false, List, [], length, take, drop, Ok, Err, Result, IsOk, sym, refl, ap, ◌∙◌, subst, arith}
+use Rattle.std.proofs.lemmas.Bool.{cond_both, and_right, cond-true, cond-false, eq-eqb, le-leb, lt-leb}
 use Rattle.trace.specs.declared.refusal.Fault.{Fault}
 use Rattle.trace.specs.declared.file.Header.{Header}
-use Rattle.trace.specs.Told.{Told, only, fault}
+use Rattle.trace.specs.declared.file.Parsed.{Parsed}
+use Rattle.trace.specs.Told.{Told, fault}
+use Rattle.trace.specs.declared.kind.KindName.{KindName}
+use Rattle.trace.specs.declared.kind.KindName.TheVariants.{Pulse, Stroke}
+use Rattle.trace.specs.KindNames.{kind_number}
+use Rattle.trace.specs.Numbers.{Number, found, none, number}
 use Rattle.trace.specs.Kinds.{kinds, in_range, made}
 use Rattle.trace.specs.Refusals.{answer, told_fault}
 use Rattle.trace.specs.Reading.{Verified}
-use Rattle.trace.specs.Files.{Read, Head, and_then, number_at, counted, headed, of_kind, head_of, samples_at, ended, bodied, trace_file}
+use Rattle.trace.specs.Files.{Read, Head, and_then, ranged, number_at, counted, headed, of_kind, head_of, samples_at, ended, bodied, trace_file}
 
 module _ {A B : Type 0} (f : A → Result B Told) where
   pub then_ok : {x : Result A Told} {a : A} → x ≡ Ok a → and_then x f ≡ f a
@@ -15,10 +20,6 @@ module _ {A B : Type 0} (f : A → Result B Told) where
 
   pub then_err : {x : Result A Told} {e : Told} → x ≡ Err e → and_then x f ≡ Err e
   then_err e = ap (λ z. and_then z f) e
-
--- what the exit of a `?` answers
-pub broke : {A B E : Type 0} (f : A → B) (g : E → Told) (r : Result A E) (x : E) (s : Result B Told) → ((y : E) × (r ≡ Err y) × (y ≡ x)) → s ≡ Err (g x) → answer f g r ≡ s
-broke f g r x s p e = ap (answer f g) p.1 ∙ ap (λ y. Err (g y)) p.2 ∙ sym e
 
 -- the head of a file of this kind, once its kind is read
 module _ (kind : ℕ) (file : List ℕ) (k : Read ℕ) (read : number_at 1 kinds 0 file 0 ≡ Ok k) (same : k.value ≡ kind) where
@@ -34,17 +35,18 @@ module _ (kind : ℕ) (file : List ℕ) (k : Read ℕ) (read : number_at 1 kinds
   pub head_whole : (m c : Read ℕ) → number_at 1 65535 1 file k.next ≡ Ok m → number_at 1 4096 2 file m.next ≡ Ok c → head_of kind file ≡ headed m c
   head_whole m c e h = head_is ∙ then_ok (counted file) e ∙ then_ok (headed m) h
 
--- four numbers in range make a sample, and it has them as its fields
+-- an answer that means no refusal is no error
+pub answer_ok : {A B E : Type 0} (f : A → B) (g : E → Told) (r : Result A E) → ((e : Told) → answer f g r ≡ Err e → ⊥) → IsOk r
+answer_ok f g (Ok a) h = refl
+answer_ok f g (Err e) h = absurd (h (g e) refl)
+
+-- numbers in range make a sample
 module _ (tops xs : List ℕ) where
-  pub made_in_range : (e : Told) → Err e ≡ made tops xs → in_range tops xs ≡ true → ⊥
-  made_in_range e is h = let p : made tops xs ≡ Ok (take (length tops) xs) = cond-true _ _ _ h in let z : ◌≡◌ {A = ℕ} 0 1 = cc in omega arith
+  in_range_made : (e : Told) → made tops xs ≡ Err e → in_range tops xs ≡ true → ⊥
+  in_range_made e is h = let p : made tops xs ≡ Ok (take (length tops) xs) = cond-true _ _ _ h in let z : ◌≡◌ {A = ℕ} 0 1 = cc in omega arith
 
-  made_either : (b : Bool) (fs : List ℕ) → Ok fs ≡ cond b (Ok (take (length tops) xs)) (Err (only 6)) → fs ≡ take (length tops) xs
-  made_either true fs is = cc
-  made_either false fs is = let z : ◌≡◌ {A = ℕ} 0 1 = cc in absurd (omega arith)
-
-  pub made_fields : (fs : List ℕ) → Ok fs ≡ made tops xs → fs ≡ take (length tops) xs
-  made_fields fs is = made_either (in_range tops xs) fs is
+  pub made_ok : {A E : Type 0} (f : A → List ℕ) (g : E → Told) (r : Result A E) → answer f g r ≡ made tops xs → in_range tops xs ≡ true → IsOk r
+  made_ok f g r is h = answer_ok f g r (λ e bad. in_range_made e (sym is ∙ bad) h)
 
 -- a file whose head is read: its trace, by what comes of its samples
 module _ (kind : ℕ) (tops file : List ℕ) where
@@ -66,5 +68,24 @@ module _ (kind : ℕ) (tops file : List ℕ) where
       whole l = has_samples ∙ cond-true _ _ _ (le-leb (length file) xs.next l)
 
   -- what the exit of a `?` says of the whole file
-  pub refused_by : (r : Result (Header × ℕ) Fault) (x : Fault) → ((y : Fault) × (r ≡ Err y) × (y ≡ x)) → trace_file kind tops file ≡ Err (told_fault x) → Verified kind tops file r
+  pub refused_by : (r : Result (Parsed Header) Fault) (x : Fault) → ((y : Fault) × (r ≡ Err y) × (y ≡ x)) → trace_file kind tops file ≡ Err (told_fault x) → Verified kind tops file r
   refused_by r x p e = subst (Verified kind tops file) (sym p.1) (e ∙ ap (λ y. Err (told_fault y)) (sym p.2))
+
+-- what is read in a range is the number that was found
+ranged_value : (low high f at v n : ℕ) (x : Read ℕ) → ranged low high f at (found v n) ≡ Ok x → v ≡ x.value
+ranged_value low high f at v n x =
+    cond_both (leb low v && leb v high) _ _ (λ z. z ≡ Ok x → v ≡ x.value) (λ t e. cc) (λ t e. let z : ◌≡◌ {A = ℕ} 0 1 = cc in absurd (omega arith))
+
+no_kinds : (v : ℕ) → ((name : KindName) → kind_number name ≢ v) → (leb 1 v && leb v kinds) ≡ false
+no_kinds zero other = refl
+no_kinds (suc zero) other = absurd (other Pulse refl)
+no_kinds (suc (suc zero)) other = absurd (other Stroke refl)
+no_kinds (suc (suc (suc v))) other = and_right _ _ (lt-leb (suc (suc (suc v))) kinds (omega arith))
+
+unkind : (r : Number) (x : Read ℕ) → ranged 0 255 0 0 r ≡ Ok x → ((name : KindName) → kind_number name ≢ x.value) → ranged 1 kinds 0 0 r ≡ Err (fault 6 0 0)
+unkind (found v n) x is other = cond-false _ _ _ (no_kinds v (subst (λ u. (name : KindName) → kind_number name ≢ u) (sym (ranged_value 0 255 0 0 v n x is)) other))
+unkind (none e) x is other = let z : ◌≡◌ {A = ℕ} 0 1 = cc in absurd (omega arith)
+
+-- a number that no kind has is out of the kinds' range
+pub no_kind : (file : List ℕ) (x : Read ℕ) → number_at 0 255 0 file 0 ≡ Ok x → ((name : KindName) → kind_number name ≢ x.value) → number_at 1 kinds 0 file 0 ≡ Err (fault 6 0 0)
+no_kind file x is other = unkind (number 3 (drop 0 file)) x is other

@@ -1,21 +1,9 @@
 -- What the reader of numbers rests on. Assumes nothing.
-use Rattle.std.proofs.Common.{◌≡◌, ℕ, zero, suc, ◌+◌, ◌-◌, ◌*◌, ◌<◌, ◌≤◌, ltb, List, [], ◌∷◌, ◌++◌, length, get_or, drop, IfOk, Ok, Err, Result, sym, ap, ◌∙◌, subst, not-suc-le-zero, add-zero, arith}
-use Rattle.std.proofs.lemmas.List.{at_drop_more, at_drop_all}
-use Rattle.std.proofs.lemmas.Bool.{cond-true, cond-false, cond_both, lt-ltb, le-ltb}
+use Rattle.std.proofs.Common.{◌≡◌, ℕ, zero, suc, ◌+◌, ◌-◌, ◌*◌, ◌≤◌, List, [], ◌∷◌, ◌++◌, length, Ok, Err, Result, sym, ap, ◌∙◌, not-suc-le-zero, add-zero, arith}
+use Rattle.std.proofs.lemmas.Bool.{cond-true, cond-false, lt-ltb, le-ltb}
 use Rattle.trace.specs.declared.number.Found.{Found}
 use Rattle.trace.specs.declared.refusal.Cause.{Cause}
-use Rattle.trace.specs.Numbers.{Number, found, none, number, number_told, scaled, spelled, value_of, SevenBits, ReadsBack}
-
--- the byte at i, where at most n + 1 are left
-module _ (bs : List ℕ) (n i : ℕ) where
-  pub number_cut : length bs ≤ i → number (suc n) (drop i bs) ≡ none 4
-  number_cut h = at_drop_all (number (suc n)) bs i h
-
-  pub number_last : i < length bs → get_or bs i 0 < 128 → number (suc n) (drop i bs) ≡ found (get_or bs i 0) 1
-  number_last h l = at_drop_more (number (suc n)) bs i 0 h ∙ cond-true _ _ _ (lt-ltb _ _ l)
-
-  pub number_more : i < length bs → 128 ≤ get_or bs i 0 → number (suc n) (drop i bs) ≡ scaled (get_or bs i 0 - 128) (number n (drop (i + 1) bs))
-  number_more h l = at_drop_more (number (suc n)) bs i 0 h ∙ cond-false _ _ _ (le-ltb _ _ l)
+use Rattle.trace.specs.Numbers.{found, number, number_told, scaled, spelled, value_of, SevenBits, ReadsBack}
 
 -- groups that are spelled out are found again
 pub number_spelled : (n : ℕ) (gs rest : List ℕ) → 1 ≤ length gs → length gs ≤ n → SevenBits gs → number n (spelled gs ++ rest) ≡ found (value_of gs) (length gs)
@@ -38,22 +26,3 @@ told_found (Err c) v n e = let z : ◌≡◌ {A = ℕ} 0 1 = cc in absurd (omega
 
 pub reads_back : (bytes : List ℕ) (r : Result Found Cause) → number_told r ≡ number 3 bytes → ReadsBack bytes r
 reads_back bytes r e gs rest g is = told_found r _ _ (e ∙ ap (number 3) is ∙ number_spelled 3 gs rest g.some g.few g.each)
-
--- a number lies within the bytes
-abbrev Lies : List ℕ → Number → Type 0
-Lies bs (found v n) = (1 ≤ n) × (n ≤ length bs)
-Lies bs (none e) = Unit {0}
-
-scaled_lies : (g b : ℕ) (bs : List ℕ) (r : Number) → Lies bs r → Lies (b ∷ bs) (scaled g r)
-scaled_lies g b bs (found v n) h = (omega arith, omega arith)
-scaled_lies g b bs (none e) h = tt
-
-number_lies : (n : ℕ) (bs : List ℕ) → Lies bs (number n bs)
-number_lies zero bs = tt
-number_lies (suc n) [] = tt
-number_lies (suc n) (b ∷ bs) =
-    cond_both (ltb b 128) _ _ (Lies (b ∷ bs)) (λ _. (omega arith, omega arith)) (λ _. scaled_lies (b - 128) b bs (number n bs) (number_lies n bs))
-
-pub told_lies : (bytes : List ℕ) (r : Result Found Cause) → number_told r ≡ number 3 bytes → IfOk r (λ f. (1 ≤ f.size) × (f.size ≤ length bytes))
-told_lies bytes (Ok f) e = subst (Lies bytes) (sym e) (number_lies 3 bytes)
-told_lies bytes (Err c) e = tt

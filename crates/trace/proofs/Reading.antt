@@ -1,48 +1,28 @@
 -- What reading a whole file comes to. Assumes nothing.
-use Rattle.std.proofs.Common.{◌≡◌, ℕ, ◌<◌, ◌≤◌, List, [], ◌++◌, map, length, take, drop, Ok, Err, sym, ap, ◌∙◌, subst, map-id, arith, take-append-drop}
-use Rattle.trace.specs.declared.file.Header.{Header}
-use Rattle.trace.specs.Files.{head_of, samples_at, trace_file}
-use Rattle.std.proofs.lemmas.Bool.{cond-true, cond-false, le-leb, lt-leb}
-use Rattle.trace.specs.Told.{only}
-use Rattle.trace.specs.Reading.{head, Sound, codes_over, SamplesOver, fitted, counts}
-use Rattle.trace.proofs.Chains.{whole}
-use Rattle.trace.proofs.Walks.{Samples, Written, samples_all}
+use Rattle.std.proofs.Common.{◌≡◌, ℕ, List, [], ◌∷◌, ◌++◌, map, length, take, drop, Ok, Err, Result, sym, refl, ap, ◌∙◌, map-id, take-append-drop}
+use Rattle.std.specs.List.{AllZip}
+use Rattle.trace.specs.Files.{Trace}
+use Rattle.trace.specs.Told.{Told}
+use Rattle.trace.specs.Reading.{codes_over, SamplesOver, MadeOver}
 
--- a file whose samples were all read, with no byte left over, is sound
-pub sound : (kind : ℕ) (tops file : List ℕ) (h : Header) (first : ℕ) → head_of kind file ≡ Ok (record { value = head h; next = first }) → (first ≤ length file) × (1 ≤ h.count) × (h.count ≤ 4096) → (i at : ℕ) → Samples tops file first h.count i at → i ≡ h.count → length file ≤ at → Sound kind tops file h first
-sound kind tops file h first begun lies i at w all done =
-    let end : at ≡ length file = omega (arith, w.lies) in
-    let body : samples_at tops h.count [] file first ≡ Ok (record { value = w.so; next = at }) = samples_all tops file first h.count i at w (omega arith) in
-    record {
-      samples = w.so;
-      is = whole kind tops file (record { value = head h; next = first }) begun (record { value = w.so; next = at }) body done;
-      count = w.long ∙ all;
-      few = (lies.1, lies.2);
-      starts = lies.0;
-      body = body ∙ ap (λ n. Ok (record { value = w.so; next = n })) end;
-    }
+-- what was made of the samples of a trace, where each is made as `seen` sees it
+module _ {S T V : Type 0} (fields : S → List ℕ) (made : S → T → Type 0) (seen : T → V) (of : List ℕ → V) (each : (s : S) (y : T) → made s y → seen y ≡ of (fields s)) where
+  made_each : (xs : List (List ℕ)) (ys : List T) → AllZip (λ xs y. (s : S) × (fields s ≡ xs) × made s y) xs ys → map seen ys ≡ map of xs
+  made_each [] [] w = refl
+  made_each [] (y ∷ ys) w = absurd w
+  made_each (x ∷ xs) [] w = absurd w
+  made_each (x ∷ xs) (y ∷ ys) w =
+      let head : seen y ≡ of x = each w.0.0 y w.0.2 ∙ ap of w.0.1 in
+      ap (λ v. v ∷ map seen ys) head ∙ ap (λ vs. of x ∷ vs) (made_each xs ys w.1)
 
--- what was written of a sound file
-module _ (kind : ℕ) (tops file : List ℕ) (h : Header) (first : ℕ) (s : Sound kind tops file h first) where
-  pub codes_written : (code : List ℕ → ℕ) (old out : List ℕ) → Written (λ (n : ℕ). n) code old h.count s.samples out → out ≡ codes_over code (trace_file kind tops file) old
-  codes_written code old out w =
-      let front : take h.count out ≡ map code s.samples = sym (map-id (take h.count out)) ∙ w.front in
-      sym (take-append-drop h.count out) ∙ ap (λ xs. xs ++ drop h.count out) front ∙ ap (λ xs. map code s.samples ++ xs) w.rest
-      ∙ ap (λ n. map code s.samples ++ drop n old) (sym s.count) ∙ ap (λ t. codes_over code t old) (sym s.is)
+pub made_codes : {S : Type 0} (fields : S → List ℕ) (made : S → ℕ → Type 0) (code : List ℕ → ℕ) → ((s : S) (y : ℕ) → made s y → y ≡ code (fields s)) → (t : Result Trace Told) (old new : List ℕ) → MadeOver fields made t old new → new ≡ codes_over code t old
+made_codes fields made code each (Ok t) old new w =
+    let n = length t.samples in
+    let front : take n new ≡ map code t.samples = sym (map-id (take n new)) ∙ made_each fields made (λ (y : ℕ). y) code each t.samples (take n new) w.0 in
+    sym (take-append-drop n new) ∙ ap (λ xs. xs ++ drop n new) front ∙ ap (λ xs. map code t.samples ++ xs) w.1
+made_codes fields made code each (Err e) old new w = w
 
-  pub samples_written : {S : Type 0} (fields : S → List ℕ) (old out : List S) → Written fields (λ (xs : List ℕ). xs) old h.count s.samples out → SamplesOver fields (trace_file kind tops file) old out
-  samples_written fields old out w =
-      let front : map fields (take (length s.samples) out) ≡ s.samples = ap (λ n. map fields (take n out)) s.count ∙ w.front ∙ map-id s.samples in
-      let rest : drop (length s.samples) out ≡ drop (length s.samples) old = ap (λ n. drop n out) s.count ∙ w.rest ∙ ap (λ n. drop n old) (sym s.count) in
-      subst (λ t. SamplesOver fields t old out) (sym s.is) (front, rest)
-
-  -- the trace goes into a slice with room for it, and into no shorter one
-  module _ (room : ℕ) where
-    pub fits : h.count ≤ room → fitted room (trace_file kind tops file) ≡ trace_file kind tops file
-    fits l = ap (fitted room) s.is ∙ cond-true _ _ _ (le-leb (length s.samples) room (omega (arith, s.count))) ∙ sym s.is
-
-    pub too_short : room < h.count → fitted room (trace_file kind tops file) ≡ Err (only 3)
-    too_short l = ap (fitted room) s.is ∙ cond-false _ _ _ (lt-leb (length s.samples) room (omega (arith, s.count)))
-
-    pub counted : h.count ≤ room → counts (fitted room (trace_file kind tops file)) ≡ Ok (head h)
-    counted l = ap counts (fits l ∙ s.is) ∙ ap (λ n. Ok (record { machine = h.machine; count = n })) s.count
+pub made_samples : {S : Type 0} (fields : S → List ℕ) (made : S → S → Type 0) → ((s y : S) → made s y → y ≡ s) → (t : Result Trace Told) (old new : List S) → MadeOver fields made t old new → SamplesOver fields t old new
+made_samples fields made each (Ok t) old new w =
+    (made_each fields made fields (λ (xs : List ℕ). xs) (λ s y m. ap fields (each s y m)) t.samples (take (length t.samples) new) w.0 ∙ map-id t.samples, w.1)
+made_samples fields made each (Err e) old new w = w

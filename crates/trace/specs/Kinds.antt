@@ -35,17 +35,13 @@ in_range (t ∷ ts) (x ∷ xs) = nat_le x t && in_range ts xs
 abbrev pub made : List ℕ → List ℕ → Result (List ℕ) Told
 made tops xs = cond (in_range tops xs) (Ok (take (length tops) xs)) (Err (only 6))
 
--- a stored number above the largest value is read as 0
-abbrev pub read_as : ℕ → ℕ → ℕ
-read_as top x = cond (nat_le x top) x 0
-
 -- pulses: one field, the class
 abbrev pub pulse : Kind Pulse
 pulse = record {
   number = 1;
   codes = 20;
   tops = 19 ∷ [];
-  fields = λ p. read_as 19 p.class ∷ [];
+  fields = λ p. p.class ∷ [];
   code = λ xs. slice_index xs 0;
   agree = nat_eq;
 }
@@ -56,7 +52,7 @@ stroke = record {
   number = 2;
   codes = 120;
   tops = 9 ∷ 5 ∷ 1 ∷ [];
-  fields = λ s. read_as 9 s.drive ∷ read_as 5 s.recovery ∷ read_as 1 s.slack ∷ [];
+  fields = λ s. s.drive ∷ s.recovery ∷ s.slack ∷ [];
   code = λ xs. slice_index xs 0 * 12 + slice_index xs 1 * 2 + slice_index xs 2;
   agree = nat_eq;
 }

@@ -1,5 +1,6 @@
 pub mod Told
 pub mod Refusals
+pub mod KindNames
 pub mod Kinds
 pub mod Numbers
 pub mod Files

@@ -1,71 +1,92 @@
 //! Trace files: the kind's number, the machine, the count of samples, and then each sample's fields.
 ghost use Rattle.std.specs.Prelude.{◌≡◌, ℕ, ◌≤◌, List, [], ◌∷◌, ◌++◌, map, length, IfOk, Ok, Err};
+ghost use Rattle.trace.specs.KindNames.{kind_number};
+ghost use Rattle.trace.specs.Kinds.{kinds};
 ghost use Rattle.trace.specs.Refusals.{answer, told, told_fault, field_number};
 ghost use Rattle.trace.specs.Files.{Read, number_at, fields_at, samples_at, head_of, trace_file};
 ghost use Rattle.trace.specs.Spelling.{ReadOrRefused};
-ghost use Rattle.trace.specs.Reading.{head, fitted, counts, codes_over, SamplesOver, Sound, Verified};
+ghost use Rattle.trace.specs.Reading.{as_read, head, fitted, counts, codes_over, SamplesOver, MadeOver, Sound, Verified};
 
+use crate::kind::KindName;
 use crate::number::number;
 use crate::refusal::{Cause, Fault, Field, Refusal};
-use crate::sample::Sample;
+use crate::sample::{MOST_FIELDS, Sample};
 
-/// Kinds are numbered from 1 to this.
-const KINDS: u32 = 2;
 /// The largest number of a machine.
 const MACHINE_TOP: u32 = 65_535;
 /// The most samples that a trace has.
-const COUNT_TOP: u32 = 4_096;
+pub const MOST_SAMPLES: usize = 4_096;
 
 /// What a file says before its samples.
+// That a count is 1 to 4,096 is said where a file was read: a field's law would ask it of all who write a header.
 #[derive(Clone, Copy, PartialEq, Debug)]
 pub struct Header {
     pub machine: u16,
     pub count: u16,
 }
 
-/// A number of a file, and the place of the byte behind it.
+/// What was read from a file, and the place of the byte behind it.
 #[derive(Clone, Copy)]
-struct Numeral {
-    value: u32,
+struct Parsed<T> {
+    value: T,
     next: usize,
 }
 
 /// The number of a field at a place of the file, from low to high.
-fn number_in(file: &[u8], at: usize, low: u32, high: u32, field: Field) -> Result<Numeral, Fault>
+// The file and a place as two: the definitions go by them, and so does each fault, which tells its place from the file's
+// start.
+fn number_in(
+    file: &[u8],
+    at: usize,
+    low: u32,
+    high: u32,
+    field: Field,
+) -> Result<Parsed<u32>, Fault>
     requires { at ≤ length file.now }
-    ensures is { answer (λ x. record { value = x.value; next = x.next }) told_fault result ≡ number_at low high (field_number field) file.now at }
+    ensures is { answer (as_read (λ n. n)) told_fault result ≡ number_at low high (field_number field) file.now at }
     ensures lies { IfOk result (λ x. (x.next ≤ length file.now) × (low ≤ x.value) × (x.value ≤ high)) }
 {
-    match number(&file[at..]) {
-        Err(cause) => Err(Fault {
-            cause,
-            place: at,
-            field,
+    let fault = |cause: Cause| Fault {
+        cause,
+        place: at,
+        field,
+    };
+    let found = number(&file[at..]).map_err(fault)?;
+    if !(low..=high).contains(&found.value) {
+        return Err(fault(Cause::OutOfRange));
+    }
+    Ok(Parsed {
+        value: found.value,
+        next: at + found.size,
+    })
+}
+
+/// The kind that the file's first number names.
+fn read_kind(file: &[u8]) -> Result<Parsed<KindName>, Fault>
+    ensures is { answer (as_read kind_number) told_fault result ≡ number_at 1 kinds 0 file.now 0 }
+    ensures lies { IfOk result (λ x. x.next ≤ length file.now) }
+{
+    let found = number_in(file, 0, 0, u8::MAX as u32, Field::Kind)?;
+    match KindName::try_from(found.value as u8) {
+        Ok(value) => Ok(Parsed {
+            value,
+            next: found.next,
         }),
-        Ok(found) => {
-            if low <= found.value && found.value <= high {
-                Ok(Numeral {
-                    value: found.value,
-                    next: at + found.size,
-                })
-            } else {
-                Err(Fault {
-                    cause: Cause::OutOfRange,
-                    place: at,
-                    field,
-                })
-            }
-        }
+        Err(_) => Err(Fault {
+            cause: Cause::OutOfRange,
+            place: 0,
+            field: Field::Kind,
+        }),
     }
 }
 
-/// The kind, the machine and the count, and the place of the first sample.
-fn read_header<S: Sample>(file: &[u8]) -> Result<(Header, usize), Fault>
-    ensures is { answer (λ x. record { value = head x.0; next = x.1 }) told_fault result ≡ head_of S.kind.number file.now }
-    ensures lies { IfOk result (λ x. (x.1 ≤ length file.now) × (1 ≤ x.0.count) × (x.0.count ≤ 4096)) }
+/// The machine and the count of a file of the kind S.
+fn read_header<S: Sample>(file: &[u8]) -> Result<Parsed<Header>, Fault>
+    ensures is { answer (as_read head) told_fault result ≡ head_of S.kind.number file.now }
+    ensures lies { IfOk result (λ x. (x.next ≤ length file.now) × (1 ≤ x.value.count) × (x.value.count ≤ 4096)) }
 {
-    let kind = number_in(file, 0, 1, KINDS, Field::Kind)?;
-    if kind.value != S::kind_number() as u32 {
+    let kind = read_kind(file)?;
+    if kind.value != S::KIND {
         return Err(Fault {
             cause: Cause::OtherKind,
             place: 0,
@@ -73,44 +94,44 @@ fn read_header<S: Sample>(file: &[u8]) -> Result<(Header, usize), Fault>
         });
     }
     let machine = number_in(file, kind.next, 1, MACHINE_TOP, Field::Machine)?;
-    let count = number_in(file, machine.next, 1, COUNT_TOP, Field::Count)?;
-    Ok((
-        Header {
+    let count = number_in(file, machine.next, 1, MOST_SAMPLES as u32, Field::Count)?;
+    Ok(Parsed {
+        value: Header {
             machine: machine.value as u16,
             count: count.value as u16,
         },
-        count.next,
-    ))
+        next: count.next,
+    })
 }
 
-/// The sample at a place of the file, and the place of the byte behind it.
-fn sample_at<S: Sample>(file: &[u8], at: usize) -> Result<(S, usize), Fault>
+/// The sample at a place of the file.
+fn sample_at<S: Sample>(file: &[u8], at: usize) -> Result<Parsed<S>, Fault>
     requires { at ≤ length file.now }
-    ensures is { answer (λ x. record { value = S.kind.fields x.0; next = x.1 }) told_fault result ≡ fields_at S.kind.tops [] file.now at }
-    ensures lies { IfOk result (λ x. x.1 ≤ length file.now) }
+    ensures is { answer (as_read S.kind.fields) told_fault result ≡ fields_at S.kind.tops [] file.now at }
+    ensures lies { IfOk result (λ x. x.next ≤ length file.now) }
 {
-    let mut numbers = [0u16; 4];
+    let mut numbers = [0u16; MOST_FIELDS];
     let mut next = at;
-    for i in 0..S::field_count() {
-        let numeral = number_in(file, next, 0, S::top(i) as u32, Field::Sample)?;
-        numbers[i] = numeral.value as u16;
-        next = numeral.next;
+    // The largest value by index: what a `zip` with `iter_mut` writes is not known after its loop.
+    for (field, number) in numbers[..S::FIELDS].iter_mut().enumerate() {
+        let found = number_in(file, next, 0, S::TOPS[field] as u32, Field::Sample)?;
+        *number = found.value as u16;
+        next = found.next;
     }
-    match S::make(numbers[0], numbers[1], numbers[2], numbers[3]) {
-        Ok(sample) => Ok((sample, next)),
-        Err(_) => unreachable(),
-    }
+    Ok(Parsed {
+        value: S::make(numbers).unwrap(),
+        next,
+    })
 }
 
-/// Reads the whole file through: its header and the place of its first sample, or its first fault.
-fn verify<S: Sample>(file: &[u8]) -> Result<(Header, usize), Fault>
+/// Reads the whole file through: its header, behind which the samples begin, or its first fault.
+fn verify<S: Sample>(file: &[u8]) -> Result<Parsed<Header>, Fault>
     ensures { Verified S.kind.number S.kind.tops file.now result }
 {
-    let (header, first) = read_header::<S>(file)?;
-    let mut at = first;
-    for _ in 0..header.count {
-        let (_, next) = sample_at::<S>(file, at)?;
-        at = next;
+    let header = read_header::<S>(file)?;
+    let mut at = header.next;
+    for _ in 0..header.value.count {
+        at = sample_at::<S>(file, at)?.next;
     }
     if at < file.len() {
         return Err(Fault {
@@ -119,45 +140,47 @@ fn verify<S: Sample>(file: &[u8]) -> Result<(Header, usize), Fault>
             field: Field::End,
         });
     }
-    Ok((header, first))
+    Ok(header)
 }
 
-/// Writes the codes of a sound file's samples into the front of `codes`.
-fn write_codes<S: Sample>(file: &[u8], header: Header, first: usize, codes: &mut [u16])
-    requires sound { Sound S.kind.number S.kind.tops file.now header first }
-    requires room { header.count ≤ length codes.old }
-    ensures { codes.new ≡ codes_over S.kind.code (trace_file S.kind.number S.kind.tops file.now) codes.old }
+/// Writes what `of` makes of each sample of a sound file into the front of `out`.
+fn write_each<S: Sample, T: Copy, F: Fn(S) -> T>(
+    file: &[u8],
+    header: Parsed<Header>,
+    out: &mut [T],
+    of: F,
+)
+    requires sound { Sound S.kind.number S.kind.tops file.now header.value header.next }
+    requires room { header.value.count ≤ length out.old }
+    requires callable { F.IsAlwaysCallable of }
+    ensures { MadeOver S.kind.fields (F.post of) (trace_file S.kind.number S.kind.tops file.now) out.old out.new }
 {
-    let count = header.count as usize;
-    let mut at = first;
-    for i in 0..count {
-        match sample_at::<S>(file, at) {
-            Ok((sample, next)) => {
-                codes[i] = sample.code();
-                at = next;
-            }
-            Err(_) => unreachable(),
-        }
+    let front = &mut out[..header.value.count as usize];
+    let mut at = header.next;
+    for place in front.iter_mut() {
+        let sample = sample_at::<S>(file, at).unwrap();
+        *place = of(sample.value);
+        at = sample.next;
     }
 }
 
-/// Writes the samples of a sound file into the front of `out`.
-fn write_samples<S: Sample>(file: &[u8], header: Header, first: usize, out: &mut [S])
-    requires sound { Sound S.kind.number S.kind.tops file.now header first }
-    requires room { header.count ≤ length out.old }
-    ensures { SamplesOver S.kind.fields (trace_file S.kind.number S.kind.tops file.now) out.old out.new }
+/// Reads a trace file of the kind S: writes what `of` makes of each sample into the front of `out`.
+fn read_each<S: Sample, T: Copy, F: Fn(S) -> T>(
+    file: &[u8],
+    out: &mut [T],
+    of: F,
+) -> Result<Header, Refusal>
+    requires callable { F.IsAlwaysCallable of }
+    ensures is { answer head told result ≡ counts (fitted (length out.old) (trace_file S.kind.number S.kind.tops file.now)) }
+    ensures put { MadeOver S.kind.fields (F.post of) (fitted (length out.old) (trace_file S.kind.number S.kind.tops file.now)) out.old out.new }
+    ensures few { IfOk result (λ h. (1 ≤ h.count) × (h.count ≤ 4096) × (h.count ≤ length out.old)) }
 {
-    let count = header.count as usize;
-    let mut at = first;
-    for i in 0..count {
-        match sample_at::<S>(file, at) {
-            Ok((sample, next)) => {
-                out[i] = sample;
-                at = next;
-            }
-            Err(_) => unreachable(),
-        }
+    let header = verify::<S>(file)?;
+    if out.len() < header.value.count as usize {
+        return Err(Refusal::TooShort);
     }
+    write_each(file, header, out, of);
+    Ok(header.value)
 }
 
 /// Reads a trace file of the kind S: writes its samples' codes into the front of `codes`, and answers its machine
@@ -169,12 +192,7 @@ pub fn read_codes<S: Sample>(file: &[u8], codes: &mut [u16]) -> Result<Header, R
     ensures few { IfOk result (λ h. (1 ≤ h.count) × (h.count ≤ 4096) × (h.count ≤ length codes.old)) }
     ensures one { ReadOrRefused S.kind.number S.kind.tops file.now }
 {
-    let (header, first) = verify::<S>(file)?;
-    if codes.len() < header.count as usize {
-        return Err(Refusal::TooShort);
-    }
-    write_codes::<S>(file, header, first, codes);
-    Ok(header)
+    read_each(file, codes, |sample: S| sample.code())
 }
 
 /// Reads a trace file of the kind S: writes its samples into the front of `out`, and answers its machine and count.
@@ -184,10 +202,5 @@ pub fn read_samples<S: Sample>(file: &[u8], out: &mut [S]) -> Result<Header, Ref
     ensures put { SamplesOver S.kind.fields (fitted (length out.old) (trace_file S.kind.number S.kind.tops file.now)) out.old out.new }
     ensures few { IfOk result (λ h. (1 ≤ h.count) × (h.count ≤ 4096) × (h.count ≤ length out.old)) }
 {
-    let (header, first) = verify::<S>(file)?;
-    if out.len() < header.count as usize {
-        return Err(Refusal::TooShort);
-    }
-    write_samples::<S>(file, header, first, out);
-    Ok(header)
+    read_each(file, out, |sample: S| sample)
 }

@@ -3,6 +3,7 @@
 
 pub mod examples;
 pub mod file;
+pub mod kind;
 pub mod limits;
 pub mod number;
 pub mod pulse;

@@ -1,11 +1,14 @@
 //! Numbers in a trace file: one to three bytes, seven bits in each, the lowest first.
-ghost use Rattle.std.specs.Prelude.{◌≡◌, ℕ, ◌≤◌, length, IfOk};
+ghost use Rattle.std.specs.Prelude.{◌≡◌, ℕ, ◌+◌, ◌-◌, ◌*◌, ◌<◌, ◌≤◌, length, IfOk};
 ghost use Rattle.trace.specs.Numbers.{number, number_told, ReadsBack};
 
 use crate::refusal::Cause;
 
 /// A byte of this or more says that another follows; the bits below it are its group.
-const MORE: u8 = 0x80;
+pub const MORE: u8 = 0x80;
+
+/// How many values a group has.
+const GROUP: u32 = 0x80;
 
 /// A number, and how many bytes it takes.
 #[derive(Clone, Copy, PartialEq, Debug)]
@@ -23,39 +26,34 @@ pub fn number(bytes: &[u8]) -> Result<Found, Cause>
     decode(bytes)
 }
 
+/// Apart from `number`, since that groups are read back follows from this in one step, whichever arm answers.
 fn decode(bytes: &[u8]) -> Result<Found, Cause>
-    ensures { number_told result ≡ number 3 bytes.now }
+    ensures is { number_told result ≡ number 3 bytes.now }
+    ensures lies { IfOk result (λ f. (1 ≤ f.size) × (f.size ≤ length bytes.now)) }
 {
-    if bytes.len() == 0 {
-        return Err(Cause::EndsInsideNumber);
-    }
-    let low = bytes[0];
-    if low < MORE {
-        return Ok(Found {
+    match *bytes {
+        [low, ..] if low < MORE => Ok(Found {
             value: low as u32,
             size: 1,
-        });
-    }
-    if bytes.len() == 1 {
-        return Err(Cause::EndsInsideNumber);
-    }
-    let middle = bytes[1];
-    if middle < MORE {
-        return Ok(Found {
-            value: (low - MORE) as u32 + 128 * middle as u32,
+        }),
+        [low, middle, ..] if middle < MORE => Ok(Found {
+            value: above(low, middle as u32),
             size: 2,
-        });
-    }
-    if bytes.len() == 2 {
-        return Err(Cause::EndsInsideNumber);
-    }
-    let high = bytes[2];
-    if high < MORE {
-        let upper = (middle - MORE) as u32 + 128 * high as u32;
-        return Ok(Found {
-            value: (low - MORE) as u32 + 128 * upper,
+        }),
+        [low, middle, high, ..] if high < MORE => Ok(Found {
+            value: above(low, above(middle, high as u32)),
             size: 3,
-        });
+        }),
+        [_, _, _, ..] => Err(Cause::NumberTooLong),
+        _ => Err(Cause::EndsInsideNumber),
     }
-    Err(Cause::NumberTooLong)
+}
+
+/// The value of a byte's group and of the groups above it.
+fn above(byte: u8, higher: u32) -> u32
+    requires more { 128 ≤ byte }
+    requires few { higher < 128 * 128 }
+    ensures { result ≡ byte - 128 + 128 * higher }
+{
+    (byte - MORE) as u32 + GROUP * higher
 }

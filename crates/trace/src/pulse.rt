@@ -1,42 +1,62 @@
 //! Flywheel pulses.
-ghost use Rattle.std.specs.Prelude.{◌≡◌, [], ◌∷◌};
-ghost use Rattle.std.proofs.Common.{sym, ap, ◌∙◌, arith, rules};
-ghost use Rattle.trace.specs.Kinds.{pulse, read_as};
-ghost use Rattle.trace.specs.PulseSampleLemmas;
+ghost use Rattle.std.specs.Prelude.{◌≡◌, ◌≤◌, [], ◌∷◌};
+ghost use Rattle.trace.specs.declared.pulse.TheConstants.{CLASS_TOP};
 
+use crate::kind::KindName;
 use crate::refusal::Refusal;
-use crate::sample::Sample;
+use crate::sample::{MOST_FIELDS, Sample};
 
 /// The largest class.
-const CLASS_TOP: u8 = 19;
+const CLASS_TOP: u16 = 19;
 
 /// A flywheel pulse, by its class, 0 to 19.
 #[derive(Clone, Copy, PartialEq, Debug)]
 pub struct Pulse {
     class: u8,
+    ghost in_range: { class ≤ CLASS_TOP },
 }
 
 impl Pulse {
-    /// The class; a stored number above 19 is read as 0.
+    /// The class.
     pub fn class(&self) -> u8
-        ensures { result ≡ read_as 19 self.now.class }
+        ensures is { result ≡ self.now.class }
+        ensures top { result ≤ 19 }
     {
-        if self.class <= CLASS_TOP {
-            self.class
-        } else {
-            0
-        }
+        self.class
     }
 }
 
 impl Sample for Pulse {
-    const KIND: u8 = 1;
+    ghost use Rattle.std.proofs.Common.{sym, ap, ◌∙◌, arith, rules};
+    ghost use Rattle.trace.specs.Kinds.{pulse};
+    ghost use Rattle.trace.specs.PulseSampleLemmas;
+    ghost use Rattle.trace.specs.declared.kind.KindName.TheVariants as name;
 
-    const CODES: u16 = 20;
+    const KIND: KindName = KindName::Pulse;
+
+    const CODES: u16 = CLASS_TOP + 1;
 
     const FIELDS: usize = 1;
 
+    const TOPS: [u16; MOST_FIELDS] = [CLASS_TOP, 0, 0, 0];
+
+    ghost KIND = { name.Pulse };
+
+    ghost CODES = { 20 };
+
+    ghost FIELDS = { 1 };
+
+    ghost TOPS = { CLASS_TOP ∷ 0 ∷ 0 ∷ 0 ∷ [] };
+
     ghost kind = { pulse };
+
+    ghost named = { Prim.search rules };
+
+    ghost coded = { Prim.search rules };
+
+    ghost counted = { Prim.search rules };
+
+    ghost topped = { Prim.search rules };
 
     ghost numbered = { Prim.search rules };
 
@@ -60,27 +80,9 @@ impl Sample for Pulse {
 
     ghost equals = { Prim.search rules };
 
-    fn kind_number() -> u8 {
-        Self::KIND
-    }
-
-    fn code_count() -> u16 {
-        Self::CODES
-    }
-
-    fn field_count() -> usize {
-        Self::FIELDS
-    }
-
-    fn top(field: usize) -> u16 {
-        match field {
-            0 => CLASS_TOP as u16,
-            _ => 0,
-        }
-    }
-
-    fn make(class: u16, _b: u16, _c: u16, _d: u16) -> Result<Pulse, Refusal> {
-        if class <= CLASS_TOP as u16 {
+    fn make(fields: [u16; MOST_FIELDS]) -> Result<Pulse, Refusal> {
+        let [class, ..] = fields;
+        if class <= CLASS_TOP {
             Ok(Pulse { class: class as u8 })
         } else {
             Err(Refusal::OutOfRange)
@@ -88,7 +90,7 @@ impl Sample for Pulse {
     }
 
     fn code(&self) -> u16 {
-        self.class() as u16
+        u16::from(self.class)
     }
 
     fn agree(a: u16, b: u16) -> bool {

@@ -21,6 +21,7 @@ pub enum Cause {
 
 impl Cause {
     /// The number of the cause, 4 to 8.
+    // A method, and no `From`: a bare number does not say what it numbers.
     pub fn number(self) -> u8
         ensures { result ≡ cause_number self }
     {
@@ -41,6 +42,7 @@ pub enum Field {
 
 impl Field {
     /// The number of the field, 0 to 4.
+    // A method, and no `From`: a bare number does not say what it numbers.
     pub fn number(self) -> u8
         ensures { result ≡ field_number self }
     {
@@ -56,6 +58,9 @@ pub struct Fault {
     pub place: usize,
     pub field: Field,
 }
+
+/// The number of the refusal of a slice; the others have the numbers of their causes.
+const TOO_SHORT: u8 = 3;
 
 /// Why a call was refused.
 #[derive(Clone, Copy, PartialEq, Debug)]
@@ -74,8 +79,8 @@ impl Refusal {
         ensures { result ≡ number_of (told self) }
     {
         match self {
-            Refusal::TooShort => 3,
-            Refusal::OutOfRange => 6,
+            Refusal::TooShort => TOO_SHORT,
+            Refusal::OutOfRange => Cause::OutOfRange.number(),
             Refusal::File(fault) => fault.cause.number(),
         }
     }

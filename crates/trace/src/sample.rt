@@ -1,40 +1,43 @@
 //! What a trace is made of: kinds of samples.
 ghost use Rattle.std.specs.Prelude.{◌≡◌, ℕ, ◌<◌, ◌≤◌, Bool, true, List, [], ◌∷◌, length, take, slice_index};
+ghost use Rattle.trace.specs.KindNames.{kind_number};
 ghost use Rattle.trace.specs.Kinds.{Kind, Within, kinds, made};
 ghost use Rattle.trace.specs.Refusals.{answer, told};
+ghost use Rattle.trace.specs.declared.kind.KindName.{KindName};
 
+use crate::kind::KindName;
 use crate::refusal::Refusal;
+
+/// The most fields that a sample has.
+pub const MOST_FIELDS: usize = 4;
 
 /// A kind of sample. What it means is its ghost member `kind`; the laws are what every kind shows.
 pub trait Sample: Copy {
-    /// The kind's number, by which a file names it.
-    const KIND: u8;
+    /// The kind's name, whose number a file has.
+    const KIND: KindName;
+
     /// How many codes there are.
     const CODES: u16;
+
     /// How many fields a sample has.
     const FIELDS: usize;
 
+    /// The largest value of each field; 0 past the last one.
+    const TOPS: [u16; MOST_FIELDS];
+
+    ghost KIND: { KindName };
+
+    ghost CODES: { ℕ };
+
+    ghost FIELDS: { ℕ };
+
+    ghost TOPS: { List ℕ };
+
     ghost kind: { Kind Self };
 
-    /// The kind's number.
-    fn kind_number() -> u8
-        ensures { result ≡ kind.number };
-
-    /// How many codes there are.
-    fn code_count() -> u16
-        ensures { result ≡ kind.codes };
-
-    /// How many fields a sample has.
-    fn field_count() -> usize
-        ensures { result ≡ length kind.tops };
-
-    /// The largest value of a field, counted from 0; past the last field it is 0.
-    fn top(field: usize) -> u16
-        ensures { result ≡ slice_index kind.tops field };
-
     /// The sample with these fields; numbers past the fields are ignored.
-    fn make(a: u16, b: u16, c: u16, d: u16) -> Result<Self, Refusal>
-        ensures { answer kind.fields told result ≡ made kind.tops (a ∷ b ∷ c ∷ d ∷ []) };
+    fn make(fields: [u16; MOST_FIELDS]) -> Result<Self, Refusal>
+        ensures { answer kind.fields told result ≡ made kind.tops fields };
 
     /// The sample's code.
     fn code(&self) -> u16
@@ -43,6 +46,14 @@ pub trait Sample: Copy {
     /// Whether two codes agree.
     fn agree(a: u16, b: u16) -> bool
         ensures { result ≡ kind.agree a b };
+
+    ghost named: { kind_number KIND ≡ kind.number };
+
+    ghost coded: { CODES ≡ kind.codes };
+
+    ghost counted: { FIELDS ≡ length kind.tops };
+
+    ghost topped: { (field : ℕ) → slice_index TOPS field ≡ slice_index kind.tops field };
 
     ghost numbered: { 1 ≤ kind.number };
 
@@ -71,8 +82,5 @@ pub trait Sample: Copy {
 pub fn blank<S: Sample>() -> S
     ensures { S.kind.fields result ≡ take (length S.kind.tops) (0 ∷ 0 ∷ 0 ∷ 0 ∷ []) }
 {
-    match S::make(0, 0, 0, 0) {
-        Ok(sample) => sample,
-        Err(_) => unreachable(),
-    }
+    S::make([0; MOST_FIELDS]).unwrap()
 }

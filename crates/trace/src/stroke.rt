@@ -1,18 +1,25 @@
 //! Strokes.
-ghost use Rattle.std.specs.Prelude.{◌≡◌, slice_index_or};
-ghost use Rattle.trace.specs.Kinds.{stroke, read_as};
-ghost use Rattle.std.proofs.Common.{arith, rules};
-ghost use Rattle.trace.specs.StrokeSampleLemmas.{three};
+ghost use Rattle.std.specs.Prelude.{◌≡◌, ◌≤◌, [], ◌∷◌, slice_index_or};
+ghost use Rattle.trace.specs.declared.stroke.TheConstants.{DRIVE_TOP, RECOVERY_TOP, SLACK_TOP};
 
+use crate::kind::KindName;
 use crate::refusal::Refusal;
-use crate::sample::Sample;
+use crate::sample::{MOST_FIELDS, Sample};
 
-/// The largest drive, recovery and slack.
-const DRIVE_TOP: u8 = 9;
+/// The largest drive.
+const DRIVE_TOP: u16 = 9;
 
-const RECOVERY_TOP: u8 = 5;
+/// The largest recovery.
+const RECOVERY_TOP: u16 = 5;
 
-const SLACK_TOP: u8 = 1;
+/// The largest slack.
+const SLACK_TOP: u16 = 1;
+
+/// How many codes a recovery has: one for each slack.
+const RECOVERY_CODES: u16 = SLACK_TOP + 1;
+
+/// How many codes a drive has: those of each recovery.
+const DRIVE_CODES: u16 = (RECOVERY_TOP + 1) * RECOVERY_CODES;
 
 /// A stroke: drive 0 to 9, recovery 0 to 5, slack 0 to 1.
 #[derive(Clone, Copy, PartialEq, Debug)]
@@ -20,43 +27,65 @@ pub struct Stroke {
     drive: u8,
     recovery: u8,
     slack: u8,
-}
-
-/// A stored number above the largest value is read as 0.
-fn capped(top: u8, stored: u8) -> u8
-    ensures { result ≡ read_as top stored }
-{
-    if stored <= top { stored } else { 0 }
+    ghost drive_in_range: { drive ≤ DRIVE_TOP },
+    ghost recovery_in_range: { recovery ≤ RECOVERY_TOP },
+    ghost slack_in_range: { slack ≤ SLACK_TOP },
 }
 
 impl Stroke {
     pub fn drive(&self) -> u8
-        ensures { result ≡ read_as 9 self.now.drive }
+        ensures is { result ≡ self.now.drive }
+        ensures top { result ≤ 9 }
     {
-        capped(DRIVE_TOP, self.drive)
+        self.drive
     }
 
     pub fn recovery(&self) -> u8
-        ensures { result ≡ read_as 5 self.now.recovery }
+        ensures is { result ≡ self.now.recovery }
+        ensures top { result ≤ 5 }
     {
-        capped(RECOVERY_TOP, self.recovery)
+        self.recovery
     }
 
     pub fn slack(&self) -> u8
-        ensures { result ≡ read_as 1 self.now.slack }
+        ensures is { result ≡ self.now.slack }
+        ensures top { result ≤ 1 }
     {
-        capped(SLACK_TOP, self.slack)
+        self.slack
     }
 }
 
 impl Sample for Stroke {
-    const KIND: u8 = 2;
+    ghost use Rattle.std.proofs.Common.{arith, rules};
+    ghost use Rattle.trace.specs.Kinds.{stroke};
+    ghost use Rattle.trace.specs.StrokeSampleLemmas.{three};
+    ghost use Rattle.trace.specs.declared.kind.KindName.TheVariants as name;
 
-    const CODES: u16 = 120;
+    const KIND: KindName = KindName::Stroke;
+
+    const CODES: u16 = (DRIVE_TOP + 1) * DRIVE_CODES;
 
     const FIELDS: usize = 3;
 
+    const TOPS: [u16; MOST_FIELDS] = [DRIVE_TOP, RECOVERY_TOP, SLACK_TOP, 0];
+
+    ghost KIND = { name.Stroke };
+
+    ghost CODES = { 120 };
+
+    ghost FIELDS = { 3 };
+
+    ghost TOPS = { DRIVE_TOP ∷ RECOVERY_TOP ∷ SLACK_TOP ∷ 0 ∷ [] };
+
     ghost kind = { stroke };
+
+    ghost named = { Prim.search rules };
+
+    ghost coded = { Prim.search rules };
+
+    ghost counted = { Prim.search rules };
+
+    ghost topped = { Prim.search rules };
 
     ghost numbered = { Prim.search rules };
 
@@ -88,32 +117,9 @@ impl Sample for Stroke {
 
     ghost equals = { Prim.search rules };
 
-    fn kind_number() -> u8 {
-        Self::KIND
-    }
-
-    fn code_count() -> u16 {
-        Self::CODES
-    }
-
-    fn field_count() -> usize {
-        Self::FIELDS
-    }
-
-    fn top(field: usize) -> u16 {
-        match field {
-            0 => DRIVE_TOP as u16,
-            1 => RECOVERY_TOP as u16,
-            2 => SLACK_TOP as u16,
-            _ => 0,
-        }
-    }
-
-    fn make(drive: u16, recovery: u16, slack: u16, _d: u16) -> Result<Stroke, Refusal> {
-        if drive <= DRIVE_TOP as u16
-            && recovery <= RECOVERY_TOP as u16
-            && slack <= SLACK_TOP as u16
-        {
+    fn make(fields: [u16; MOST_FIELDS]) -> Result<Stroke, Refusal> {
+        let [drive, recovery, slack, _] = fields;
+        if drive <= DRIVE_TOP && recovery <= RECOVERY_TOP && slack <= SLACK_TOP {
             Ok(Stroke {
                 drive: drive as u8,
                 recovery: recovery as u8,
@@ -125,7 +131,9 @@ impl Sample for Stroke {
     }
 
     fn code(&self) -> u16 {
-        self.drive() as u16 * 12 + self.recovery() as u16 * 2 + self.slack() as u16
+        u16::from(self.drive) * DRIVE_CODES
+            + u16::from(self.recovery) * RECOVERY_CODES
+            + u16::from(self.slack)
     }
 
     fn agree(a: u16, b: u16) -> bool {
