@@ -1,8 +1,8 @@
 -- Chains of the places that have one number.
-use Rattle.std.proofs.Common.{◌≡◌, ℕ, zero, suc, ◌+◌, ◌<◌, ◌≤◌, cond, eqb, ◌≢◌, List, length, get_or, set, replicate, sym, refl, ap, ◌∙◌, subst, ⊎_elim, add-one, arith, length-set, get_or-set_other, get_or-set_same, below_more}
+use Rattle.std.proofs.Common.{◌≡◌, ℕ, zero, suc, ◌+◌, ◌<◌, ◌≤◌, cond, eqb, ◌≢◌, List, length, get_or, set, replicate, Option, Some, None, sym, refl, ap, ◌∙◌, subst, ⊎_elim, add-one, arith, length-set, get_or-set_other, get_or-set_same, below_more}
 use lib.ListN.{length-replicate, get_or-replicate}
 use Rattle.std.proofs.lemmas.Bool.{cases_eq, eq-eqb, ne_eqb, cond-true, cond-false}
-use Rattle.filters.specs.Chains.{latest, Chained}
+use Rattle.filters.specs.Chains.{latest, place, Chained}
 
 pub latest_more : (f : ℕ → ℕ) (h n : ℕ) → latest f h (n + 1) ≡ cond (eqb (f n) h) (n + 1) (latest f h n)
 latest_more f h n = rw (add-one n)
@@ -89,3 +89,12 @@ chained_none f = record {
   head = λ h l. get_or-replicate {A = ℕ} 1021 h 0 0 l;
   link = λ i l. let z : ⊥ = omega arith in absurd z;
 }
+
+-- one more than a place, and 0 for none: what falls on the way along a chain
+abbrev pub past : Option ℕ → ℕ
+past None = 0
+past (Some i) = suc i
+
+pub past_place : (at : ℕ) → past (place at) ≡ at
+past_place zero = refl
+past_place (suc i) = refl

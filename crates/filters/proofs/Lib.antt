@@ -1,7 +1,10 @@
 pub mod Rowing
 pub mod Comparing
 pub mod Digits
+pub mod Cutting
+pub mod Folding
 pub mod Numbering
 pub mod Entries
 pub mod Chaining
 pub mod Walking
+pub mod Ranging

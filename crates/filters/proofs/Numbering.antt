@@ -1,7 +1,10 @@
 -- The numbers of the first i starts stand in the list.
-use Rattle.std.proofs.Common.{◌≡◌, ℕ, suc, ◌+◌, ◌-◌, ◌*◌, ◌%◌, ◌^◌, ◌<◌, ◌≤◌, ◌≢◌, List, length, get_or, set, sym, refl, ap, ◌∙◌, subst, arith, length-set, get_or-set_other, get_or-set_same, below_more}
+use Rattle.std.proofs.Common.{◌≡◌, ℕ, suc, ◌+◌, ◌-◌, ◌*◌, ◌%◌, ◌^◌, ◌<◌, ◌≤◌, ◌≢◌, List, length, get_or, set, take, length-take-le, refl, ap, ◌∙◌, subst, arith, length-set, get_or-set_other, get_or-set_same, below_more}
 use Rattle.filters.specs.Tuples.{tuple_number, starts, Numbered}
-use Rattle.filters.proofs.Digits.{rolls}
+use Rattle.std.proofs.lemmas.List.{get_or-take}
+use Rattle.filters.specs.Chains.{Chained}
+use Rattle.filters.proofs.Chaining.{chained_ext}
+use Rattle.filters.proofs.Digits.{rolls, number_small}
 
 pub record Filling (l g : ℕ) (xs before after : List ℕ) (i : ℕ) : Type 0 where
   pub keeps : length after ≡ length before
@@ -27,12 +30,29 @@ pub filling_done : (l g : ℕ) (xs b a : List ℕ) (i : ℕ) → i ≡ starts l 
 filling_done l g xs b a i e m = record { keeps = m.keeps; numbers = λ x h. m.numbers x (omega arith); rest = λ x h. m.rest x (omega arith) }
 
 -- the number of the start i from that of the start i - g
-pub rolls_to : (l g : ℕ) (xs : List ℕ) (i v p : ℕ) → 0 < l → g ≤ i → v ≡ tuple_number l g xs (i - g) → p ≡ 640 ^ (l - 1) % 1021 →
-    ((v + 1021 - get_or xs (i - g) 0 * p % 1021) * 640 + get_or xs (i + (l - 1) * g) 0) % 1021 ≡ tuple_number l g xs i
-rolls_to l g xs i v p some h ev ep =
+pub rolls_to : (l g : ℕ) (xs : List ℕ) (i v p s : ℕ) → 0 < l → g ≤ i → v ≡ tuple_number l g xs (i - g) → p ≡ 640 ^ (l - 1) % 1021 → s ≡ (l - 1) * g →
+    ((v + 1021 - get_or xs (i - g) 0 * p % 1021) * 640 + get_or xs (i + s) 0) % 1021 ≡ tuple_number l g xs i
+rolls_to l g xs i v p s some h ev ep es =
     let el : suc (l - 1) ≡ l = omega arith in
     let ei : i - g + g ≡ i = omega arith in
     let r = rolls (l - 1) g xs (i - g) p ep in
     let r' = subst (λ (y : ℕ). ((tuple_number y g xs (i - g) + 1021 - get_or xs (i - g) 0 * p % 1021) * 640 + get_or xs (i - g + g + (l - 1) * g) 0) % 1021 ≡ tuple_number y g xs (i - g + g)) el r in
     let r'' = subst (λ (y : ℕ). ((tuple_number l g xs (i - g) + 1021 - get_or xs (i - g) 0 * p % 1021) * 640 + get_or xs (y + (l - 1) * g) 0) % 1021 ≡ tuple_number l g xs y) ei r' in
-    subst (λ (y : ℕ). ((y + 1021 - get_or xs (i - g) 0 * p % 1021) * 640 + get_or xs (i + (l - 1) * g) 0) % 1021 ≡ tuple_number l g xs i) (sym ev) r''
+    rw (ev, es) r''
+
+-- the front of the list, cut out
+front_number : (l g : ℕ) (xs b a : List ℕ) (n i : ℕ) → Numbered l g xs b a → n ≡ starts l g (length xs) → i < n → get_or (take n a) i 0 ≡ tuple_number l g xs i
+front_number l g xs b a n i m e h = get_or-take n a i 0 h ∙ m.numbers i (omega arith)
+
+pub front_small : (l g : ℕ) (xs b a : List ℕ) (n i : ℕ) → Numbered l g xs b a → n ≡ starts l g (length xs) → i < n → get_or (take n a) i 0 < 1021
+front_small l g xs b a n i m e h =
+    let f = front_number l g xs b a n i m e h in
+    let s = number_small l g xs i in
+    omega arith
+
+pub front_chained : (l g : ℕ) (xs b a : List ℕ) (n : ℕ) (heads links : List ℕ) → Numbered l g xs b a → n ≡ starts l g (length xs) → n ≤ length a →
+    Chained (λ i. get_or (take n a) i 0) (length (take n a)) heads links → Chained (tuple_number l g xs) (starts l g (length xs)) heads links
+front_chained l g xs b a n heads links m e le h =
+    let k : length (take n a) ≡ starts l g (length xs) = length-take-le n a le ∙ e in
+    chained_ext (λ i. get_or (take n a) i 0) (tuple_number l g xs) (starts l g (length xs)) heads links (λ i lt. front_number l g xs b a n i m e (omega arith))
+    (subst (λ (z : ℕ). Chained (λ i. get_or (take n a) i 0) z heads links) k h)

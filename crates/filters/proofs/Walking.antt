@@ -1,15 +1,18 @@
 -- A walk along the chain of one number marks the places that pass, from the last down.
-use Rattle.std.proofs.Common.{◌≡◌, ℕ, zero, suc, ◌+◌, ◌-◌, ◌*◌, ◌%◌, ◌<◌, ◌≤◌, Bool, true, false, cond, ◌&&◌, ltb, leb, ◌≢◌, List, length, get_or, set, sym, refl, ap, ◌∙◌, subst, ⊎_elim, arith, length-set, get_or-set_other, get_or-set_same, below_more}
-use Rattle.std.proofs.lemmas.Bool.{cases_eq, cases_lt, cases_Bool, le-leb, lt-leb, lt-ltb, ltb-true, eqb-true, and_parts, and_left, and_right}
+use Rattle.std.proofs.Common.{◌≡◌, ℕ, zero, suc, ◌+◌, ◌-◌, ◌*◌, ◌%◌, ◌<◌, ◌≤◌, Bool, true, false, cond, ◌&&◌, ltb, leb, ◌≢◌, List, ◌++◌, length, get_or, set, take, drop, replicate, length-append, length-drop, Option, Some, None, sym, refl, ap, ◌∙◌, subst, ⊎_elim, arith, length-set, get_or-set_other, get_or-set_same}
+use lib.ListN.{length-replicate, get_or-replicate, get_or-append}
+use Rattle.std.proofs.lemmas.List.{get_or-drop, get_or-append_right}
+use Rattle.std.proofs.lemmas.Bool.{cases_eq, cases_lt, cases_Bool, le-leb, lt-leb, ltb-true, eqb-true, and_parts, and_left, and_right}
 use Rattle.filters.specs.Questions.{every}
 use Rattle.filters.specs.Matching.{count}
 use Rattle.filters.specs.Filters.{Marked}
 use Rattle.filters.specs.Counting.{decides_every}
 use Rattle.filters.proofs.Rowing.{count_le}
 use Rattle.filters.specs.Tuples.{tuple_number, starts, same_digit, same_tuple}
-use Rattle.filters.specs.Chains.{latest, Chained, Cleared}
-use Rattle.filters.proofs.Chaining.{latest_le, latest_stays, latest_last, latest_has}
+use Rattle.filters.specs.Chains.{latest, place, Chained, Cleared}
+use Rattle.filters.proofs.Chaining.{past, past_place, latest_le, latest_stays, latest_last, latest_has}
 use Rattle.filters.proofs.Digits.{digit, digits_ext, number_digits}
+use Rattle.filters.proofs.Cutting.{same_cut, same_rest}
 
 abbrev pub bit : Bool → ℕ
 bit b = cond b 1 0
@@ -30,9 +33,6 @@ found l g xs ys j x e =
     let b = and_parts (ltb (j + (l - 1) * g) (length ys)) _ a.1 in
     let c = ltb-true _ _ a.0 in
     (omega (arith, c), same_number l g xs ys x j b.1)
-
-pub tuple_inside : (l g : ℕ) (xs ys : List ℕ) (i j : ℕ) → i + (l - 1) * g < length xs → j + (l - 1) * g < length ys → same_tuple l g xs ys i j ≡ every (same_digit g xs ys i j) l
-tuple_inside l g xs ys i j a b = rw (lt-ltb (i + (l - 1) * g) (length xs) a, lt-ltb (j + (l - 1) * g) (length ys) b)
 
 abbrev pub passed : (ℕ → Bool) → ℕ → ℕ
 passed p n = count n p
@@ -173,106 +173,87 @@ walk_ends f p h q n b a at c qb e w =
       count = w.count ∙ passed_ext (late p at) p q (λ x l. all x);
     }
 
--- a row that was cleared first
-pub after_clear : (p : ℕ → Bool) (q : ℕ) (b₀ b a : List ℕ) (r : ℕ) → Cleared q b₀ b → Marked p q b a r → Marked p q b₀ a r
-after_clear p q b₀ b a r c m = record {
-  room = omega (arith, m.room, c.keeps);
-  keeps = m.keeps ∙ c.keeps;
-  marks = m.marks;
-  rest = λ x l. m.rest x l ∙ c.rest x l;
-  count = m.count;
-}
+-- the first marks of a row are filled, and those of the places that have the tuple of the trace at j are marked
+pub row_marked : (l g : ℕ) (xs ys : List ℕ) (j : ℕ) (b₀ b a tuple : List ℕ) (r : ℕ) → Cleared (length xs) b₀ b → tuple ≡ drop j ys → Marked (λ i. same_tuple l g xs tuple i 0) (length xs) b a r →
+    Marked (λ i. same_tuple l g xs ys i j) (length xs) b₀ a r
+row_marked l g xs ys j b₀ b a tuple r c e m =
+    let same : (i : ℕ) → same_tuple l g xs tuple i 0 ≡ same_tuple l g xs ys i j =
+    λ i. ap (λ z. same_tuple l g xs z i 0) e ∙ (sym (same_cut l g xs (drop j ys) i 0) ∙ same_cut l g xs ys i j) in
+    record {
+      room = omega (arith, m.room, c.keeps);
+      keeps = m.keeps ∙ c.keeps;
+      marks = λ x l. m.marks x l ∙ ap bit (same x);
+      rest = λ x l. m.rest x l ∙ c.rest x l;
+      count = m.count ∙ passed_ext (λ i. same_tuple l g xs tuple i 0) (λ i. same_tuple l g xs ys i j) (length xs) (λ x h. same x);
+    }
 
--- a row with no place that passes
-pub only_clear : (p : ℕ → Bool) (q : ℕ) (b₀ b : List ℕ) → q ≤ length b₀ → ((x : ℕ) → p x ≡ false) → Cleared q b₀ b → Marked p q b₀ b 0
-only_clear p q b₀ b qb none c = record {
-  room = qb;
-  keeps = c.keeps;
-  marks = λ x l. c.blank x l ∙ ap bit (sym (none x));
-  rest = c.rest;
-  count = sym (passed_none p q (λ x l. none x));
-}
-
-pub tuple_outside : (l g : ℕ) (xs ys : List ℕ) (i j : ℕ) → length ys ≤ j + (l - 1) * g → same_tuple l g xs ys i j ≡ false
+tuple_outside : (l g : ℕ) (xs ys : List ℕ) (i j : ℕ) → length ys ≤ j + (l - 1) * g → same_tuple l g xs ys i j ≡ false
 tuple_outside l g xs ys i j h =
     and_right (ltb (i + (l - 1) * g) (length xs)) _ (and_left (ltb (j + (l - 1) * g) (length ys)) _ (lt-leb (suc (j + (l - 1) * g)) (length ys) (omega arith)))
 
-pub cleared_more : (i : ℕ) (b a : List ℕ) → Cleared i b a → i < length b → Cleared (i + 1) b (set a i 0)
-cleared_more i b a m lt =
-    let ia : i < length a = omega (arith, m.keeps) in
+-- where the trace has no tuple at j no place is marked
+pub row_unmarked : (l g : ℕ) (xs ys : List ℕ) (j : ℕ) (b₀ b : List ℕ) → length xs ≤ length b₀ → length ys ≤ j + (l - 1) * g → Cleared (length xs) b₀ b → Marked (λ i. same_tuple l g xs ys i j) (length xs) b₀ b 0
+row_unmarked l g xs ys j b₀ b room out c = record {
+  room = room;
+  keeps = c.keeps;
+  marks = λ x h. c.blank x h ∙ ap bit (sym (tuple_outside l g xs ys x j out));
+  rest = c.rest;
+  count = sym (passed_none (λ i. same_tuple l g xs ys i j) (length xs) (λ x h. tuple_outside l g xs ys x j out));
+}
+
+-- the first n marks were filled
+pub cleared_front : (n : ℕ) (b ys : List ℕ) → n ≤ length b → ys ≡ replicate n 0 → Cleared n b (ys ++ drop n b)
+cleared_front n b ys h e =
+    let k : length ys ≡ n = ap length e ∙ length-replicate {A = ℕ} n 0 in
     record {
-      keeps = length-set a i 0 ∙ m.keeps;
-      blank = λ k h.
-          below_more (λ k. get_or (set a i 0) k 0 ≡ 0) i
-          (λ k h. let ne : k ≢ i = omega arith in get_or-set_other a i k 0 0 ne ∙ m.blank k h)
-          (get_or-set_same a i 0 0 ia) k h;
-      rest = λ k h. let ne : k ≢ i = omega arith in get_or-set_other a i k 0 0 ne ∙ m.rest k (omega arith);
+      keeps = omega (arith, length-append {A = ℕ}, length-drop {A = ℕ}, k, h);
+      blank = λ x l. get_or-append ys (drop n b) 0 x (omega arith) ∙ (ap (λ z. get_or z x 0) e ∙ get_or-replicate {A = ℕ} n x 0 0 l);
+      rest = λ x l. let d : n + (x - n) ≡ x = omega arith in get_or-append_right ys (drop n b) n x 0 k l ∙ (get_or-drop n b (x - n) 0 ∙ ap (λ z. get_or b z 0) d);
     }
 
 -- where the chain leads from a place of the walk
-pub walk_link : (f : ℕ → ℕ) (p : ℕ → Bool) (h q n : ℕ) (b a heads links : List ℕ) (at c : ℕ) → Chained f n heads links → Walk f p h q n b a at c → 0 < at → get_or links (at - 1) 0 ≡ latest f h (at - 1)
-walk_link f p h q n b a heads links at c m w some =
-    let low = w.low in
-    let e : at ≡ suc (at - 1) = omega arith in
-    let has : f (at - 1) ≡ h = latest_has f h (at - 1) (subst (λ (z : ℕ). latest f h z ≡ z) e w.stays) in
-    m.link (at - 1) (omega arith) ∙ ap (λ z. latest f z (at - 1)) has
+walk_link : (f : ℕ → ℕ) (p : ℕ → Bool) (h q n : ℕ) (b a heads links : List ℕ) (i c : ℕ) → Chained f n heads links → Walk f p h q n b a (suc i) c → get_or links i 0 ≡ latest f h i
+walk_link f p h q n b a heads links i c m w = m.link i (omega (arith, w.low)) ∙ ap (λ z. latest f z i) (latest_has f h i w.stays)
 
-pub walk_falls : (f : ℕ → ℕ) (p : ℕ → Bool) (h q n : ℕ) (b a heads links : List ℕ) (at c : ℕ) → Chained f n heads links → Walk f p h q n b a at c → 0 < at → get_or links (at - 1) 0 < at
-walk_falls f p h q n b a heads links at c m w some =
-    let e = walk_link f p h q n b a heads links at c m w some in
-    let le = latest_le f h (at - 1) in
-    omega arith
+-- the walk for the tuple that ys begins with
+module _ (l g : ℕ) (xs ys b : List ℕ) where
+  abbrev pub TupleWalk : List ℕ → Option ℕ → ℕ → Type 0
+  TupleWalk a next c =
+      Walk (tuple_number l g xs) (λ i. same_tuple l g xs ys i 0) (tuple_number l g ys 0) (length xs) (starts l g (length xs)) b a (past next) c
 
-pub turn_marks : (f : ℕ → ℕ) (p : ℕ → Bool) (h q n : ℕ) (b a a' heads links : List ℕ) (at c c' : ℕ) → Found f p h n → n ≤ q → q ≤ length b → Chained f n heads links →
-    Walk f p h q n b a at c → 0 < at → p (at - 1) ≡ true → a' ≡ set a (at - 1) 1 → c' ≡ c + 1 → Walk f p h q n b a' (get_or links (at - 1) 0) c'
-turn_marks f p h q n b a a' heads links at c c' k nq qb m w some e ea ec =
-    let s : at ≡ suc (at - 1) = omega arith in
-    let t = walk_link f p h q n b a heads links at c m w some in
-    subst (λ (z : ℕ). Walk f p h q n b a' z c') (sym t)
-    (walk_marks f p h q n b a a' (at - 1) c c' k nq qb (subst (λ (z : ℕ). Walk f p h q n b a z c) s w) e ea ec)
+  pub tuple_few : (a : List ℕ) (next : Option ℕ) (c : ℕ) → TupleWalk a next c → c ≤ length xs
+  tuple_few a next c w = omega (arith, w.count, count_le (late (λ i. same_tuple l g xs ys i 0) (past next)) (length xs))
 
-pub turn_passes : (f : ℕ → ℕ) (p : ℕ → Bool) (h q n : ℕ) (b a a' heads links : List ℕ) (at c c' : ℕ) → Found f p h n → n ≤ q → Chained f n heads links →
-    Walk f p h q n b a at c → 0 < at → p (at - 1) ≡ false → a' ≡ a → c' ≡ c → Walk f p h q n b a' (get_or links (at - 1) 0) c'
-turn_passes f p h q n b a a' heads links at c c' k nq m w some e ea ec =
-    let s : at ≡ suc (at - 1) = omega arith in
-    let t = walk_link f p h q n b a heads links at c m w some in
-    subst (λ (z : ℕ). Walk f p h q n b a' z c') (sym t)
-    (walk_passes f p h q n b a a' (at - 1) c c' k nq (subst (λ (z : ℕ). Walk f p h q n b a z c) s w) e ea ec)
+  pub tuple_ends : (a : List ℕ) (next : Option ℕ) (c : ℕ) → length xs ≤ length b → next ≡ None → TupleWalk a next c → Marked (λ i. same_tuple l g xs ys i 0) (length xs) b a c
+  tuple_ends a next c qb e w =
+      walk_ends (tuple_number l g xs) (λ i. same_tuple l g xs ys i 0) (tuple_number l g ys 0) (length xs) (starts l g (length xs)) b a (past next) c qb (ap past e) w
 
--- the walk for the tuple of ys at j
-abbrev pub TupleWalk : ℕ → ℕ → List ℕ → List ℕ → ℕ → List ℕ → List ℕ → ℕ → ℕ → Type 0
-TupleWalk l g xs ys j b a at c = Walk (tuple_number l g xs) (λ i. same_tuple l g xs ys i j) (tuple_number l g ys j) (length xs) (starts l g (length xs)) b a at c
+  module _ (heads links : List ℕ) (m : Chained (tuple_number l g xs) (starts l g (length xs)) heads links) where
+    pub tuple_begins : (h : ℕ) (next : Option ℕ) → ((x : ℕ) → x < length xs → get_or b x 0 ≡ 0) → h ≡ tuple_number l g ys 0 → h < 1021 → next ≡ place (get_or heads h 0) → TupleWalk b next 0
+    tuple_begins h next blank e lt en =
+        walk_begins (tuple_number l g xs) (λ i. same_tuple l g xs ys i 0) (tuple_number l g ys 0) (length xs) (starts l g (length xs)) b (past next)
+        (found l g xs ys 0) blank (ap past en ∙ (past_place (get_or heads h 0) ∙ (m.head h lt ∙ ap (λ z. latest (tuple_number l g xs) z (starts l g (length xs))) e)))
 
-pub tuple_begins : (l g : ℕ) (xs ys : List ℕ) (j : ℕ) (b heads links : List ℕ) (h : ℕ) → Chained (tuple_number l g xs) (starts l g (length xs)) heads links →
-    ((x : ℕ) → x < length xs → get_or b x 0 ≡ 0) → h ≡ tuple_number l g ys j → h < 1021 → TupleWalk l g xs ys j b b (get_or heads h 0) 0
-tuple_begins l g xs ys j b heads links h m blank e lt =
-    walk_begins (tuple_number l g xs) (λ i. same_tuple l g xs ys i j) (tuple_number l g ys j) (length xs) (starts l g (length xs)) b (get_or heads h 0)
-    (found l g xs ys j) blank (m.head h lt ∙ ap (λ z. latest (tuple_number l g xs) z (starts l g (length xs))) e)
+    module _ (a : List ℕ) (next : Option ℕ) (i c : ℕ) (w : TupleWalk a next c) (e : next ≡ Some i) where
+      here : TupleWalk a (Some i) c
+      here = subst (λ (z : Option ℕ). TupleWalk a z c) e w
 
-pub tuple_falls : (l g : ℕ) (xs ys : List ℕ) (j : ℕ) (b a heads links : List ℕ) (at c : ℕ) → Chained (tuple_number l g xs) (starts l g (length xs)) heads links →
-    TupleWalk l g xs ys j b a at c → 0 < at → get_or links (at - 1) 0 < at
-tuple_falls l g xs ys j b a heads links at c m w some =
-    walk_falls (tuple_number l g xs) (λ i. same_tuple l g xs ys i j) (tuple_number l g ys j) (length xs) (starts l g (length xs)) b a heads links at c m w some
+      module _ (next' : Option ℕ) (e' : next' ≡ place (get_or links i 0)) where
+        on : past next' ≡ latest (tuple_number l g xs) (tuple_number l g ys 0) i
+        on = ap past e' ∙ (past_place (get_or links i 0) ∙
+            walk_link (tuple_number l g xs) (λ i. same_tuple l g xs ys i 0) (tuple_number l g ys 0) (length xs) (starts l g (length xs)) b a heads links i c m here)
 
-pub tuple_marks : (l g : ℕ) (xs ys : List ℕ) (j : ℕ) (b a a' heads links : List ℕ) (at c c' : ℕ) → Chained (tuple_number l g xs) (starts l g (length xs)) heads links → length xs ≤ length b →
-    TupleWalk l g xs ys j b a at c → 0 < at → j + (l - 1) * g < length ys → true ≡ every (same_digit g xs ys (at - 1) j) l → a' ≡ set a (at - 1) 1 → c' ≡ c + 1 →
-    TupleWalk l g xs ys j b a' (get_or links (at - 1) 0) c'
-tuple_marks l g xs ys j b a a' heads links at c c' m qb w some inside e ea ec =
-    let low : at ≤ starts l g (length xs) = w.low in
-    turn_marks (tuple_number l g xs) (λ i. same_tuple l g xs ys i j) (tuple_number l g ys j) (length xs) (starts l g (length xs)) b a a' heads links at c c'
-    (found l g xs ys j) (omega arith) qb m w some (tuple_inside l g xs ys (at - 1) j (omega arith) inside ∙ sym e) ea ec
+        pub tuple_falls : past next' < past next
+        tuple_falls = let s : past next ≡ suc i = ap past e in omega (arith, on, latest_le (tuple_number l g xs) (tuple_number l g ys 0) i)
 
-pub tuple_passes : (l g : ℕ) (xs ys : List ℕ) (j : ℕ) (b a a' heads links : List ℕ) (at c c' : ℕ) → Chained (tuple_number l g xs) (starts l g (length xs)) heads links →
-    TupleWalk l g xs ys j b a at c → 0 < at → j + (l - 1) * g < length ys → false ≡ every (same_digit g xs ys (at - 1) j) l → a' ≡ a → c' ≡ c →
-    TupleWalk l g xs ys j b a' (get_or links (at - 1) 0) c'
-tuple_passes l g xs ys j b a a' heads links at c c' m w some inside e ea ec =
-    let low : at ≤ starts l g (length xs) = w.low in
-    turn_passes (tuple_number l g xs) (λ i. same_tuple l g xs ys i j) (tuple_number l g ys j) (length xs) (starts l g (length xs)) b a a' heads links at c c'
-    (found l g xs ys j) (omega arith) m w some (tuple_inside l g xs ys (at - 1) j (omega arith) inside ∙ sym e) ea ec
+        pub tuple_marks : (a' : List ℕ) (c' : ℕ) → length xs ≤ length b → true ≡ same_tuple l g (take (length xs - i) (drop i xs)) ys 0 0 → a' ≡ set a i 1 → c' ≡ c + 1 → TupleWalk a' next' c'
+        tuple_marks a' c' qb h ea ec =
+            subst (λ (z : ℕ). Walk (tuple_number l g xs) (λ i. same_tuple l g xs ys i 0) (tuple_number l g ys 0) (length xs) (starts l g (length xs)) b a' z c') (sym on)
+            (walk_marks (tuple_number l g xs) (λ i. same_tuple l g xs ys i 0) (tuple_number l g ys 0) (length xs) (starts l g (length xs)) b a a' i c c'
+            (found l g xs ys 0) (omega arith) qb here (sym (h ∙ same_rest l g xs ys i)) ea ec)
 
-pub tuple_few : (l g : ℕ) (xs ys : List ℕ) (j : ℕ) (b a : List ℕ) (at c : ℕ) → TupleWalk l g xs ys j b a at c → c ≤ length xs
-tuple_few l g xs ys j b a at c w = omega (arith, w.count, count_le (late (λ i. same_tuple l g xs ys i j) at) (length xs))
-
-pub tuple_ends : (l g : ℕ) (xs ys : List ℕ) (j : ℕ) (b a : List ℕ) (at c : ℕ) → length xs ≤ length b → at ≤ 0 → TupleWalk l g xs ys j b a at c → Marked (λ i. same_tuple l g xs ys i j) (length xs) b a c
-tuple_ends l g xs ys j b a at c qb e w =
-    walk_ends (tuple_number l g xs) (λ i. same_tuple l g xs ys i j) (tuple_number l g ys j) (length xs) (starts l g (length xs)) b a at c qb (omega arith) w
+        pub tuple_passes : (a' : List ℕ) (c' : ℕ) → false ≡ same_tuple l g (take (length xs - i) (drop i xs)) ys 0 0 → a' ≡ a → c' ≡ c → TupleWalk a' next' c'
+        tuple_passes a' c' h ea ec =
+            subst (λ (z : ℕ). Walk (tuple_number l g xs) (λ i. same_tuple l g xs ys i 0) (tuple_number l g ys 0) (length xs) (starts l g (length xs)) b a' z c') (sym on)
+            (walk_passes (tuple_number l g xs) (λ i. same_tuple l g xs ys i 0) (tuple_number l g ys 0) (length xs) (starts l g (length xs)) b a a' i c c'
+            (found l g xs ys 0) (omega arith) here (sym (h ∙ same_rest l g xs ys i)) ea ec)

@@ -1,10 +1,15 @@
 -- The index of tuples: chains of the places that have one number. Assumes nothing.
-use Rattle.std.specs.Prelude.{◌≡◌, ℕ, zero, suc, ◌<◌, ◌≤◌, cond, List, length, ◌==◌, slice_index}
+use Rattle.std.specs.Prelude.{◌≡◌, ℕ, zero, suc, ◌<◌, ◌≤◌, cond, List, length, Option, Some, None, ◌==◌, slice_index}
 
 -- one more than the last place below n that has the number h, and 0 where there is none
 abbrev pub latest : (ℕ → ℕ) → ℕ → ℕ → ℕ
 latest f h zero = 0
 latest f h (suc n) = cond (f n == h) (suc n) (latest f h n)
+
+-- the place that a head or a link leads to
+abbrev pub place : ℕ → Option ℕ
+place zero = None
+place (suc i) = Some i
 
 -- the head of h leads to the last of the n places that has the number h
 abbrev pub Heads : (ℕ → ℕ) → ℕ → List ℕ → Type 0

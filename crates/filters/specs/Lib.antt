@@ -1,5 +1,6 @@
 pub mod Refusals
 pub mod Matching
+pub mod Asked
 pub mod Filters
 pub mod Questions
 pub mod Tuples

@@ -1,5 +1,5 @@
 -- What a match with few mismatches is sure to share.
-use Rattle.std.specs.Prelude.{◌≡◌, ℕ, suc, ◌+◌, ◌-◌, ◌*◌, ◌<◌, ◌≤◌, true, false, List, length, nat_lt}
+use Rattle.std.specs.Prelude.{◌≡◌, ℕ, suc, ◌+◌, ◌-◌, ◌*◌, ◌<◌, ◌≤◌, Bool, true, false, List, length, nat_lt}
 use Rattle.std.proofs.Common.{sym, ap, subst, ◌∙◌, arith, add_comm, mul-one, add-one}
 use Rattle.std.proofs.Math.Arith.{digits_lt}
 use Rattle.std.proofs.lemmas.Bool.{and_from, lt-ltb}
@@ -56,3 +56,8 @@ gapped_necessary a t i j d km w =
           (λ x lt. ap (λ z. same a.codes t i j z) (add_comm s (x * g)) ∙
           (ap (λ z. same a.codes t i j (x * z + s)) (add-one a.k) ∙ r.2 x lt)),
     )
+
+-- both of them, by how far apart the codes of a tuple lie
+pub tuples_necessary : (wide : Bool) → Necessary (tuple_rule wide) (tuple_reach wide)
+tuples_necessary true = gapped_necessary
+tuples_necessary false = continuous_necessary

@@ -1,10 +1,11 @@
 -- A question's tuples have sizes that their numbers and their index take.
-use Rattle.std.specs.Prelude.{◌≡◌, ℕ, zero, suc, ◌+◌, ◌-◌, ◌*◌, ◌<◌, ◌≤◌, Bool, true, false, cond, List, length, take, Ok, Err, Result, nat_lt, refl}
+use Rattle.std.specs.Prelude.{◌≡◌, ℕ, zero, suc, ◌+◌, ◌-◌, ◌*◌, ◌<◌, ◌≤◌, Bool, true, false, cond, List, ◌++◌, length, take, replicate, Ok, Err, Result, nat_lt, refl}
 use Rattle.std.proofs.Common.{sym, ap, subst, ◌∙◌, arith, mul-suc, mul-one, add-one, length-take-le}
 use Rattle.std.proofs.Math.Arith.{digits_lt}
+use Rattle.std.proofs.lemmas.List.{take-append-drop}
 use Rattle.filters.specs.Matching.{Question}
-use Rattle.filters.specs.Questions.{question, Sizes, share}
-use Rattle.filters.specs.Filters.{verdict, Fair, StandsFor, Rule, Reach, pattern_of, Rowed}
+use Rattle.filters.specs.Questions.{question, Sizes, share, padded, Kept}
+use Rattle.filters.specs.Filters.{verdict, Fair, Below, StandsFor, Rule, Reach, pattern_of, Rowed}
 use Rattle.filters.specs.declared.refusal.Refusal.{Refusal}
 use Rattle.filters.specs.declared.refusal.Refusal.TheVariants.{QueryTooLong, BadLength}
 use Rattle.filters.specs.Sharing.{share_fits, share_some}
@@ -46,30 +47,22 @@ pub verdict_some : (q m k : ℕ) → Ok tt ≡ verdict q m k → 0 < m
 verdict_some q zero k e = absurd (no_window (nat_lt 1024 q) e)
 verdict_some q (suc m) k e = omega arith
 
--- the sizes as a table hands them on
-pub sized_at : (w : Bool) (codes : List ℕ) (q m k l g s : ℕ) (xs : List ℕ) → Sizes q m k → length codes ≡ 1024 → 0 < q → xs ≡ take q codes → l ≡ share m k → g ≡ gap w s → s ≡ k →
-    Sized l g (length xs)
-sized_at w codes q m k l g s xs z full some ex el eg es =
-    let q4 : q ≤ length codes = omega (arith, z.0, full) in
-    let eq : length xs ≡ q = ap length ex ∙ length-take-le q codes q4 in
-    subst (λ (y : ℕ). Sized l g y) (sym eq)
-    (subst (λ (y : ℕ). Sized l y q) (sym (eg ∙ ap (gap w) es))
-    (subst (λ (y : ℕ). Sized y (gap w k) q) (sym el) (sized_of w q m k z some)))
+pub fair_sizes : (a : Question) → Fair a → Sizes (length a.codes) a.m a.k
+fair_sizes a f = (f.few, f.short, f.room, f.slack, f.asks)
+
+-- the sizes as a filter hands them on
+pub sized_at : (wide : Bool) (a : Question) (l g : ℕ) (xs : List ℕ) → Fair a → 0 < length a.codes → xs ≡ a.codes → l ≡ share a.m a.k → g ≡ gap wide a.k → Sized l g (length xs)
+sized_at wide a l g xs f some ex el eg = rw (ex, el, eg) (sized_of wide (length a.codes) a.m a.k (fair_sizes a f) some)
 
 pub long_at : (codes : List ℕ) (q m k : ℕ) (xs : List ℕ) → Sizes q m k → length codes ≡ 1024 → xs ≡ take q codes → length xs ≡ q
 long_at codes q m k xs z full ex =
     let q4 : q ≤ length codes = omega (arith, z.0, full) in
     ap length ex ∙ length-take-le q codes q4
 
-pub chained_at : (w : Bool) (codes : List ℕ) (q m k l g s : ℕ) (xs heads links : List ℕ) → length heads ≡ 1021 → length links ≡ 1024 →
-    Heads (numbers w (question codes q m k)) (tuples w (question codes q m k)) heads → Links (numbers w (question codes q m k)) (tuples w (question codes q m k)) links →
-    xs ≡ take q codes → l ≡ share m k → g ≡ gap w s → s ≡ k → Chained (tuple_number l g xs) (starts l g (length xs)) heads links
-chained_at w codes q m k l g s xs heads links wide long head link ex el eg es =
-    let base : Chained (tuple_number (share m k) (gap w k) (take q codes)) (starts (share m k) (gap w k) (length (take q codes))) heads links =
-    record { wide = wide; long = long; head = head; link = link } in
-    subst (λ (z : List ℕ). Chained (tuple_number l g z) (starts l g (length z)) heads links) (sym ex)
-    (subst (λ (y : ℕ). Chained (tuple_number l y (take q codes)) (starts l y (length (take q codes))) heads links) (sym (eg ∙ ap (gap w) es))
-    (subst (λ (y : ℕ). Chained (tuple_number y (gap w k) (take q codes)) (starts y (gap w k) (length (take q codes))) heads links) (sym el) base))
+pub chained_at : (wide : Bool) (a : Question) (l g : ℕ) (xs heads links : List ℕ) → length heads ≡ 1021 → length links ≡ 1024 →
+    Heads (numbers wide a) (tuples wide a) heads → Links (numbers wide a) (tuples wide a) links →
+    xs ≡ a.codes → l ≡ share a.m a.k → g ≡ gap wide a.k → Chained (tuple_number l g xs) (starts l g (length xs)) heads links
+chained_at wide a l g xs heads links full long head link ex el eg = rw (ex, el, eg) (record { wide = full; long = long; head = head; link = link })
 
 pub rowed_kind : (w v : Bool) (a : Question) (t : List ℕ) (j : ℕ) (b b' : List ℕ) (r : Result ℕ Refusal) → w ≡ v → Rowed (pattern_of (tuple_rule w) (tuple_reach w) a) t j b b' r → Rowed (pattern_of (tuple_rule v) (tuple_reach v) a) t j b b' r
 rowed_kind w v a t j b b' r e h = subst (λ (z : Bool). Rowed (pattern_of (tuple_rule z) (tuple_reach z) a) t j b b' r) e h
@@ -77,6 +70,18 @@ rowed_kind w v a t j b b' r e h = subst (λ (z : Bool). Rowed (pattern_of (tuple
 pub share_short : (q m k : ℕ) → Sizes q m k → m - share m k < 512
 share_short zero m k s = omega (arith, s.2)
 share_short (suc q) m k s = let km : k < m = s.4 (omega arith) in omega (arith, share_some m k km, s.1)
+
+pub reach_short : (wide : Bool) (a : Question) → Fair a → tuple_reach wide a.m a.k < 512
+reach_short true a f = omega (arith, f.slack)
+reach_short false a f = share_short (length a.codes) a.m a.k (fair_sizes a f)
+
+pub reach_below : (wide : Bool) → Below (tuple_reach wide)
+reach_below true m k h = h
+reach_below false m k h = omega (arith, share_some m k h)
+
+pub reach_unasked : (wide : Bool) → tuple_reach wide 0 0 ≡ 0
+reach_unasked true = refl
+reach_unasked false = refl
 
 pub fair_of : (codes : List ℕ) (q m k : ℕ) → Sizes q m k → length codes ≡ 1024 → Fair (question codes q m k)
 fair_of codes q m k s full =
@@ -86,3 +91,9 @@ fair_of codes q m k s full =
 
 pub stands_of : (rule : Rule) (reach : Reach) (b a : Question) → b ≡ a → Fair b → StandsFor rule reach (pattern_of rule reach b) a
 stands_of rule reach b a e f = subst (λ (z : Question). StandsFor rule reach (pattern_of rule reach b) z) e (record { fair = f; size = refl; span = refl; marks = λ t i j. refl })
+
+-- what is held gives the array back
+pub kept_padded : (codes : List ℕ) (q m k : ℕ) → Kept codes q m k → padded (take q codes) ≡ codes
+kept_padded codes q m k kept =
+    ap (λ (n : ℕ). take q codes ++ replicate (1024 - n) 0) (long_at codes q m k (take q codes) kept.sizes kept.full refl) ∙
+    (ap (λ z. take q codes ++ z) (sym kept.blank) ∙ take-append-drop q codes)

@@ -13,6 +13,10 @@ tuple_number l g xs i = sum l (λ x. slice_index xs (i + x * g) * 640 ^ (l - 1 -
 abbrev pub starts : ℕ → ℕ → ℕ → ℕ
 starts l g n = n - (l - 1) * g
 
+-- whether no tuple has l codes, g apart
+abbrev pub shapeless : ℕ → ℕ → Bool
+shapeless l g = l == 0 || (nat_lt 512 l || (g == 0 || nat_lt 16 g))
+
 -- what is answered for the tuples of l codes, g apart, of n codes, where there is room for so many numbers
 abbrev pub numbering : ℕ → ℕ → ℕ → ℕ → Result ℕ Refusal
 numbering l g n room =

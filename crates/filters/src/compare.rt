@@ -1,6 +1,7 @@
 //! The comparison of two windows.
-ghost use Rattle.std.specs.Prelude.{◌≡◌, ℕ, ◌+◌, ◌≤◌, length, nat_le};
-ghost use Rattle.filters.specs.Matching.{compared, mismatches};
+ghost use Rattle.std.specs.Prelude.{◌≡◌, ℕ, ◌+◌, ◌<◌, ◌≤◌, length, take, drop, not, count_by, IfOk, IfErr};
+ghost use Rattle.std.specs.List.{zip};
+ghost use Rattle.filters.specs.Matching.{compared};
 
 use crate::held::LONGEST_WINDOW;
 use crate::refusal::Refusal;
@@ -17,29 +18,26 @@ pub fn count_mismatches<S: Sample>(
 ) -> Result<usize, Refusal>
     ensures { result ≡ compared S.kind.agree query.now trace.now i j m }
 {
-    if m == 0 || m > LONGEST_WINDOW || !fits(query.len(), i, m) || !fits(trace.len(), j, m) {
+    if m == 0 || m > LONGEST_WINDOW {
         return Err(Refusal::NoWindow);
     }
-    Ok(disagreements::<S>(query, trace, i, j, m))
+    Ok(disagreements::<S>(window(query, i, m)?, window(trace, j, m)?))
 }
 
-/// Whether m places from a place on lie inside a list of this length.
-fn fits(size: usize, at: usize, m: usize) -> bool
-    ensures { result ≡ nat_le (at + m) size }
+/// The m codes from a place on.
+fn window(codes: &[u16], at: usize, m: usize) -> Result<&[u16], Refusal>
+    ensures inside { IfOk result (λ part. (at + m ≤ length codes.now) × (part.now ≡ take m (drop at codes.now))) }
+    ensures outside { IfErr result (λ e. (length codes.now < at + m) × (e ≡ Refusal.NoWindow)) }
 {
-    m <= size && at <= size - m
+    codes
+        .get(at..)
+        .and_then(|rest| rest.get(..m))
+        .ok_or(Refusal::NoWindow)
 }
 
-/// The places of two windows that lie inside, at which the codes do not agree.
-fn disagreements<S: Sample>(query: &[u16], trace: &[u16], i: usize, j: usize, m: usize) -> usize
-    requires { (i + m ≤ length query.now) × (j + m ≤ length trace.now) }
-    ensures { result ≡ mismatches S.kind.agree query.now trace.now i j m }
+/// The places of two windows at which the codes do not agree.
+fn disagreements<S: Sample>(a: &[u16], b: &[u16]) -> usize
+    ensures { result ≡ count_by (λ p. not (S.kind.agree p.0 p.1)) (zip a.now b.now) }
 {
-    let mut count = 0;
-    for x in 0..m {
-        if !S::agree(query[i + x], trace[j + x]) {
-            count += 1;
-        }
-    }
-    count
+    a.iter().zip(b).filter(|(x, y)| !S::agree(**x, **y)).count()
 }

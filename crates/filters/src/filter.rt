@@ -1,8 +1,9 @@
 //! What every filter does and shows.
-ghost use Rattle.std.specs.Prelude.{◌≡◌, ℕ, ◌<◌, ◌≤◌, Bool, true, false, cond, List, length};
-ghost use Rattle.filters.specs.Matching.{Question};
+ghost use Rattle.std.specs.Prelude.{◌≡◌, ◌<◌, ◌≤◌, length};
+ghost use Rattle.filters.specs.Asked.{asked};
 ghost use Rattle.filters.specs.Filters.{Rule, Reach, Pattern, Within, StandsFor, Inside, Below, Necessary, Rowed, Answered, none, verdict};
 
+use crate::question::Question;
 use crate::refusal::Refusal;
 
 /// A test of places (i, j) of a query and a trace that every match passes somewhere near its start.
@@ -18,9 +19,9 @@ pub trait Filter: Copy {
     ghost reaches: { Reach };
 
     /// Sets a question, in place of what was set. Refused, it changes nothing.
-    fn set(&mut self, codes: &[u16], m: usize, k: usize) -> Result<(), Refusal>
-        ensures answer { result ≡ verdict (length codes.now) m k }
-        ensures asked { Answered result (StandsFor rule reaches (stands self.new) (record { codes = codes.entry.now; m = m; k = k })) (self.new ≡ self.old) };
+    fn set(&mut self, question: Question<'_>) -> Result<(), Refusal>
+        ensures answer { result ≡ verdict (length question.entry.codes.now) question.entry.m question.entry.k }
+        ensures asked { Answered result (StandsFor rule reaches (stands self.new) (asked question.entry)) (self.new ≡ self.old) };
 
     /// Takes away what was set.
     fn clear(&mut self)
@@ -37,11 +38,13 @@ pub trait Filter: Copy {
         ensures short { result < 512 };
 
     /// Whether the place i of the query and j of the trace is passed; what is no place is not.
+    // Two numbers, and no struct of both: a row fixes j alone, and each is a place in a list of its own.
     fn passes(&self, trace: &[u16], i: usize, j: usize) -> bool
         ensures { result ≡ (stands self.now).marks trace.now i j };
 
     /// Writes 1 into the mark of each query place that is passed with the trace place j, 0 into the others, and
     /// answers how many are passed. Marks past the query's length stay.
+    // Marks are bytes: a caller may bring any buffer of bytes, and a `bool` would ask more of it.
     fn mark_row(&self, trace: &[u16], j: usize, marks: &mut [u8]) -> Result<usize, Refusal>
         ensures { Rowed (stands self.now) trace.now j marks.old marks.new result }
     {
@@ -50,13 +53,10 @@ pub trait Filter: Copy {
             return Err(Refusal::MarksTooShort);
         }
         let mut n = 0;
-        for i in 0..q {
-            if self.passes(trace, i, j) {
-                marks[i] = 1;
-                n += 1;
-            } else {
-                marks[i] = 0;
-            }
+        for (i, mark) in marks[..q].iter_mut().enumerate() {
+            let passed = self.passes(trace, i, j);
+            *mark = u8::from(passed);
+            n += usize::from(passed);
         }
         Ok(n)
     }

@@ -1,33 +1,53 @@
 //! The question that a filter was set for.
-ghost use Rattle.std.specs.Prelude.{◌≡◌, ℕ, ◌+◌, ◌-◌, ◌*◌, ◌/◌, ◌%◌, ◌^◌, ◌<◌, ◌≤◌, Bool, true, false, List, length, take, Ok, Err};
-ghost use Rattle.filters.specs.Questions.{question, Sizes, share};
-ghost use Rattle.filters.specs.Filters.{verdict, none};
+ghost use Rattle.std.specs.Prelude.{◌≡◌, ◌≤◌, length};
+ghost use Rattle.filters.specs.Asked.{asked};
+ghost use Rattle.filters.specs.Questions.{Sizes, padded, share};
+ghost use Rattle.filters.specs.Filters.{Fair, verdict, none};
 
+use crate::question::Question;
 use crate::refusal::Refusal;
+use std::marker::Model;
 
 /// The most codes of a query.
-const MOST_CODES: usize = 1_024;
+pub const MOST_CODES: usize = 1_024;
 /// The longest window.
-pub(crate) const LONGEST_WINDOW: usize = 512;
+pub const LONGEST_WINDOW: usize = 512;
 /// The most mismatches that may be asked for.
 const MOST_MISMATCHES: usize = 15;
 
 /// A question, or none: its codes, the length m of its windows, and how many mismatches k they may have. A query has few enough
 /// codes for an array, so that a question is refused for its numbers alone and never for want of memory.
+// An array and how many of its codes count: a filter is copied whole, and may not use the heap.
 #[derive(Clone, Copy)]
 pub struct Held {
     codes: [u16; MOST_CODES],
     q: usize,
     m: usize,
     k: usize,
-    ghost full: { length codes ≡ 1024 },
-    ghost sizes: { Sizes q m k },
+}
+
+impl Model for Held {
+    ghost use Rattle.filters.specs.Matching.{Question};
+    ghost use Rattle.filters.specs.Questions.{question, Kept};
+
+    ghost Value = { Question };
+
+    ghost use Rattle.filters.specs.Asking.{fields_of, fields_back};
+
+    ghost view = { λ held. question held.codes held.q held.m held.k };
+
+    ghost invariant = { λ held. Kept held.codes held.q held.m held.k };
+
+    ghost inverse = { fields_of };
+
+    ghost inverse_ok = { fields_back };
 }
 
 impl Held {
     /// No question.
+    // A question of no codes, and no option: what is read of a question can be read of it too.
     pub fn new() -> Self
-        ensures { question result.codes result.q result.m result.k ≡ none }
+        ensures { result ≡ none }
     {
         Held {
             codes: [0; MOST_CODES],
@@ -37,31 +57,34 @@ impl Held {
         }
     }
 
-    /// Takes the question away.
-    pub fn clear(&mut self)
-        ensures { question self.new.codes self.new.q self.new.m self.new.k ≡ none }
+    /// A question, held, if it can be set.
+    pub fn of(question: Question<'_>) -> Result<Self, Refusal>
+        ensures { let a = asked question.entry in elim result [ Ok held ↦ (Ok tt ≡ verdict (length a.codes) a.m a.k) × (held ≡ a) × Fair held | Err e ↦ Err e ≡ verdict (length a.codes) a.m a.k ] }
     {
-        self.q = 0;
-        self.m = 0;
-        self.k = 0;
+        let Question { codes, m, k } = question;
+        judge(codes.len(), m, k)?;
+        Ok(Held {
+            codes: padded(codes),
+            q: codes.len(),
+            m,
+            k,
+        })
     }
 
-    /// Takes a question in; refused, it keeps the one before.
-    pub fn set(&mut self, codes: &[u16], m: usize, k: usize) -> Result<(), Refusal>
-        ensures answer { result ≡ verdict (length codes.now) m k }
-        ensures asked { elim result [ Ok _ ↦ question self.new.codes self.new.q self.new.m self.new.k ≡ record { codes = codes.entry.now; m = m; k = k } | Err _ ↦ self.new ≡ self.old ] }
+    /// The question that is held, as it is brought to calls.
+    pub fn as_question(&self) -> Question<'_>
+        ensures { asked result ≡ self.now }
     {
-        judge(codes.len(), m, k)?;
-        copy(&mut self.codes, codes);
-        self.q = codes.len();
-        self.m = m;
-        self.k = k;
-        Ok(())
+        Question {
+            codes: self.codes(),
+            m: self.m,
+            k: self.k,
+        }
     }
 
     /// How many codes the query has.
     pub fn len(&self) -> usize
-        ensures { result ≡ length (take self.now.q self.now.codes) }
+        ensures { result ≡ length self.now.codes }
     {
         self.q
     }
@@ -75,7 +98,7 @@ impl Held {
 
     /// The mismatches k that a window may have.
     pub fn slack(&self) -> usize
-        ensures { (result ≡ self.now.k) × (result ≤ 15) }
+        ensures { (result ≡ self.now.k) × (result ≤ 15) × Fair self.now }
     {
         self.k
     }
@@ -89,9 +112,9 @@ impl Held {
 
     /// The query's codes.
     pub fn codes(&self) -> &[u16]
-        ensures { result.now ≡ take self.now.q self.now.codes }
+        ensures { result.now ≡ self.now.codes }
     {
-        &self.codes[0..self.q]
+        &self.codes[..self.q]
     }
 }
 
@@ -112,13 +135,12 @@ fn judge(q: usize, m: usize, k: usize) -> Result<(), Refusal>
     Ok(())
 }
 
-/// Copies codes into the front of an array.
-fn copy(into: &mut [u16; MOST_CODES], from: &[u16])
-    requires { length from.now ≤ 1024 }
-    ensures full { length into.new ≡ 1024 }
-    ensures copied { take (length from.now) into.new ≡ from.now }
+/// Codes, and zeros after them.
+fn padded(codes: &[u16]) -> [u16; MOST_CODES]
+    requires { length codes.now ≤ 1024 }
+    ensures { result ≡ padded codes.now }
 {
-    for i in 0..from.len() {
-        into[i] = from[i];
-    }
+    let mut array = [0; MOST_CODES];
+    array[..codes.len()].copy_from_slice(codes);
+    array
 }

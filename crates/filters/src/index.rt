@@ -1,19 +1,19 @@
 //! The starts of a query's tuples by their numbers, in chains.
-ghost use Rattle.std.specs.Prelude.{◌≡◌, ℕ, ◌+◌, ◌-◌, ◌*◌, ◌<◌, ◌≤◌, List, length, replicate, slice_index};
-ghost use Rattle.filters.specs.Tuples.{tuple_number, starts, Sized};
-ghost use Rattle.filters.specs.Chains.{Chained};
+ghost use Rattle.std.specs.Prelude.{◌≡◌, ℕ, ◌<◌, ◌≤◌, length, replicate, slice_index};
+ghost use Rattle.filters.specs.Tuples.{tuple_number, starts};
+ghost use Rattle.filters.specs.Chains.{Chained, place};
 
+use crate::held::MOST_CODES;
 use crate::number::{MODULUS, number_all};
+use crate::shape::Shape;
 
-/// A query has at most so many places.
-const MOST_PLACES: usize = 1_024;
-
-/// For each number the last place that has it, and for each place the last one before it with its number, each as one more
-/// than the place, and 0 for none.
+/// For each number the last place that has it, and for each place the last one before it with its number.
+// Arrays, and no map: a filter may not use the heap. One more than the place, and 0 for none: arrays of options are twice
+// as long, and a question, which copies them, is then set in a third more time.
 #[derive(Clone, Copy)]
 pub struct Index {
-    pub(crate) heads: [u16; MODULUS],
-    pub(crate) links: [u16; MOST_PLACES],
+    heads: [u16; MODULUS],
+    links: [u16; MOST_CODES],
     ghost full: { length heads ≡ 1021 },
     ghost long: { length links ≡ 1024 },
 }
@@ -25,32 +25,50 @@ impl Index {
     {
         Index {
             heads: [0; MODULUS],
-            links: [0; MOST_PLACES],
+            links: [0; MOST_CODES],
         }
     }
 
-    /// The index of the tuples of l codes, g apart.
-    pub(crate) fn of(codes: &[u16], l: usize, g: usize) -> Self
-        requires { (Sized l g (length codes.now)) × (length codes.now ≤ 1024) }
-        ensures { Chained (tuple_number l g codes.now) (starts l g (length codes.now)) result.heads result.links }
+    /// The index of the tuples of a shape.
+    pub(crate) fn of(codes: &[u16], shape: Shape) -> Self
+        requires { length codes.now ≤ 1024 }
+        ensures { Chained (tuple_number shape.size shape.gap codes.now) (starts shape.size shape.gap (length codes.now)) result.heads result.links }
     {
-        let mut numbers = [0u16; MOST_PLACES];
-        number_all(codes, l, g, &mut numbers);
-        chain(&numbers, codes.len() - (l - 1) * g)
+        let mut numbers = [0u16; MOST_CODES];
+        number_all(codes, shape, &mut numbers);
+        chain(&numbers[..shape.starts(codes.len())])
+    }
+
+    /// The last place that has a number.
+    pub(crate) fn last(&self, number: u16) -> Option<usize>
+        requires { number < 1021 }
+        ensures { result ≡ place (slice_index self.now.heads number) }
+    {
+        (self.heads[number as usize] as usize).checked_sub(1)
+    }
+
+    /// The last place before this one that has its number.
+    pub(crate) fn previous(&self, at: usize) -> Option<usize>
+        requires { at < 1024 }
+        ensures { result ≡ place (slice_index self.now.links at) }
+    {
+        (self.links[at] as usize).checked_sub(1)
     }
 }
 
-/// The chains of the first n places by their numbers.
-fn chain(numbers: &[u16], n: usize) -> Index
-    requires { (n ≤ length numbers.now) × ((n ≤ 1024) × (((i : ℕ) → i < n → slice_index numbers.now i < 1021))) }
-    ensures { Chained (λ i. slice_index numbers.now i) n result.heads result.links }
+/// The chains of places by their numbers.
+fn chain(numbers: &[u16]) -> Index
+    requires few { length numbers.now ≤ 1024 }
+    requires small { (i : ℕ) → i < length numbers.now → slice_index numbers.now i < 1021 }
+    ensures { Chained (λ i. slice_index numbers.now i) (length numbers.now) result.heads result.links }
 {
-    let mut heads = [0u16; MODULUS];
-    let mut links = [0u16; MOST_PLACES];
-    for i in 0..n {
-        let h = numbers[i] as usize;
-        links[i] = heads[h];
-        heads[h] = (i + 1) as u16;
+    let mut heads = [0; MODULUS];
+    let mut links = [0; MOST_CODES];
+    // By place: a link is made of the head that an earlier place left.
+    for (i, number) in numbers.iter().enumerate() {
+        let head = *number as usize;
+        links[i] = heads[head];
+        heads[head] = i as u16 + 1;
     }
     Index { heads, links }
 }

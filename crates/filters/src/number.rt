@@ -1,14 +1,11 @@
 //! The numbers of tuples: l codes, g apart, as digits to the base 640, modulo 1021.
-ghost use Rattle.std.specs.Prelude.{◌≡◌, ℕ, ◌+◌, ◌-◌, ◌*◌, ◌%◌, ◌^◌, ◌<◌, ◌≤◌, List, length, Ok, Err};
-ghost use Rattle.filters.specs.Tuples.{tuple_number, numbering, starts, Numbered, Sized};
+ghost use Rattle.std.specs.Prelude.{◌≡◌, ◌+◌, ◌-◌, ◌*◌, ◌%◌, ◌<◌, ◌≤◌, length};
+ghost use Rattle.filters.specs.Tuples.{tuple_number, numbering, starts, Numbered};
 
 use crate::power::power;
 use crate::refusal::Refusal;
+use crate::shape::Shape;
 
-/// The longest tuple, and the widest gap between its codes.
-const LONGEST_TUPLE: usize = 512;
-
-const WIDEST_GAP: usize = 16;
 /// Every kind has at most this many codes, so codes are digits to this base.
 const BASE: u32 = 640;
 /// Tuple numbers are kept below this prime, so that a table of heads by number stays small.
@@ -21,43 +18,48 @@ pub fn tuple_numbers(codes: &[u16], l: usize, g: usize, out: &mut [u16]) -> Resu
     ensures answer { result ≡ numbering l g (length codes.now) (length out.old) }
     ensures written { elim result [ Ok _ ↦ Numbered l g codes.now out.old out.new | Err _ ↦ out.new ≡ out.old ] }
 {
-    if l == 0 || l > LONGEST_TUPLE || g == 0 || g > WIDEST_GAP {
+    let shape = Shape::new(l, g)?;
+    let starts = shape.starts(codes.len());
+    if codes.len() <= shape.span() || out.len() < starts {
         return Err(Refusal::NoTuples);
     }
-    let span = (l - 1) * g;
-    if codes.len() <= span || out.len() < codes.len() - span {
-        return Err(Refusal::NoTuples);
-    }
-    number_all(codes, l, g, out);
-    Ok(codes.len() - span)
+    number_all(codes, shape, out);
+    Ok(starts)
 }
 
-/// Writes the number of each tuple into the front of `out`, each from the number of the tuple g before it.
-pub(crate) fn number_all(codes: &[u16], l: usize, g: usize, out: &mut [u16])
-    requires { (Sized l g (length codes.now)) × (starts l g (length codes.now) ≤ length out.old) }
-    ensures { Numbered l g codes.now out.old out.new }
+/// Writes the number of each tuple into the front of `out`, each from the number of the tuple a gap before it.
+pub(crate) fn number_all(codes: &[u16], shape: Shape, out: &mut [u16])
+    requires { starts shape.size shape.gap (length codes.now) ≤ length out.old }
+    ensures { Numbered shape.size shape.gap codes.now out.old out.new }
 {
-    let span = (l - 1) * g;
-    let p = power(l - 1);
-    for i in 0..codes.len() - span {
-        if i < g {
-            out[i] = number_at(codes, i, l, g);
+    let gap = shape.gap;
+    let span = shape.span();
+    let top = power(shape.size - 1);
+    // By index: each number is made from one written before it.
+    for i in 0..shape.starts(codes.len()) {
+        out[i] = if i < gap {
+            number_at(&codes[i..], shape)
         } else {
-            out[i] = rolled(out[i - g], codes[i - g], p, codes[i + span]);
-        }
+            rolled(out[i - gap], codes[i - gap], top, codes[i + span])
+        };
     }
 }
 
-/// The number of the tuple from i.
-pub(crate) fn number_at(codes: &[u16], i: usize, l: usize, g: usize) -> u16
-    requires { i + (l - 1) * g < length codes.now }
-    ensures { (result ≡ tuple_number l g codes.now i) × (result < 1021) }
+/// The number of the tuple at the front.
+pub(crate) fn number_at(codes: &[u16], shape: Shape) -> u16
+    requires { (shape.size - 1) * shape.gap < length codes.now }
+    ensures { (result ≡ tuple_number shape.size shape.gap codes.now 0) × (result < 1021) }
 {
-    let mut v: u32 = 0;
-    for x in 0..l {
-        v = (v * BASE + codes[i + x * g] as u32) % PRIME;
-    }
-    v as u16
+    let gap = shape.gap;
+    // By index: `step_by` would go over every code between.
+    (0..shape.size).fold(0, |number, x| followed(number, codes[x * gap]))
+}
+
+/// A number with a code behind it as one more digit.
+fn followed(number: u16, code: u16) -> u16
+    ensures { result ≡ (number * 640 + code) % 1021 }
+{
+    ((number as u32 * BASE + code as u32) % PRIME) as u16
 }
 
 /// The number of a tuple from the number of the one before it, which begins with `first`: that goes out, and `last` comes in.
@@ -66,5 +68,5 @@ fn rolled(number: u16, first: u16, power: u16, last: u16) -> u16
     ensures { result ≡ ((number + 1021 - first * power % 1021) * 640 + last) % 1021 }
 {
     let gone = first as u32 * power as u32 % PRIME;
-    (((number as u32 + PRIME - gone) * BASE + last as u32) % PRIME) as u16
+    followed((number as u32 + PRIME - gone) as u16, last)
 }

@@ -1,30 +1,31 @@
 //! The filter that passes every place.
-ghost use Rattle.std.specs.Prelude.{◌≡◌, ℕ, ◌+◌, ◌-◌, ◌*◌, ◌/◌, ◌%◌, ◌^◌, ◌<◌, ◌≤◌, Bool, true, false, cond, List, length, Ok, Err};
-ghost use Rattle.filters.specs.Questions.{question, pass_all_rule, pass_all_reach};
-ghost use Rattle.filters.specs.Filters.{StandsFor, pattern_of, none};
+ghost use Rattle.filters.specs.Questions.{pass_all_rule, pass_all_reach};
+ghost use Rattle.filters.specs.Filters.{Fair, StandsFor, pattern_of, none};
 ghost use Rattle.std.proofs.Common.{rules};
 
 use crate::filter::Filter;
 use crate::held::Held;
+use crate::question::Question;
 use crate::refusal::Refusal;
 
 /// The filter that passes every place.
 #[derive(Clone, Copy)]
 pub struct PassAll {
     held: Held,
+    ghost fair: { Fair held },
 }
 
 impl PassAll {
     /// The filter with no question set.
     pub fn new() -> Self
-        ensures { StandsFor pass_all_rule pass_all_reach (pattern_of pass_all_rule pass_all_reach (question result.held.codes result.held.q result.held.m result.held.k)) none }
+        ensures { StandsFor pass_all_rule pass_all_reach (pattern_of pass_all_rule pass_all_reach result.held) none }
     {
         PassAll { held: Held::new() }
     }
 }
 
 impl Filter for PassAll {
-    ghost stands = { λ x. pattern_of pass_all_rule pass_all_reach (question x.held.codes x.held.q x.held.m x.held.k) };
+    ghost stands = { λ x. pattern_of pass_all_rule pass_all_reach x.held };
 
     ghost rule = { pass_all_rule };
 
@@ -44,12 +45,13 @@ impl Filter for PassAll {
 
     ghost necessary = { Prim.search rules };
 
-    fn set(&mut self, codes: &[u16], m: usize, k: usize) -> Result<(), Refusal> {
-        self.held.set(codes, m, k)
+    fn set(&mut self, question: Question<'_>) -> Result<(), Refusal> {
+        self.held = Held::of(question)?;
+        Ok(())
     }
 
     fn clear(&mut self) {
-        self.held.clear();
+        *self = PassAll::new();
     }
 
     fn len(&self) -> usize {

@@ -21,6 +21,7 @@ pub enum Refusal {
 
 impl Refusal {
     /// The number of the refusal.
+    // A method, and no `From`: a bare number does not say what it numbers.
     pub fn number(self) -> u8
         ensures { result ≡ refusal_number self }
     {

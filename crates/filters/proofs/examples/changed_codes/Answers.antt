@@ -21,4 +21,4 @@ examples =
     }
 
 pub returns : goal.returns
-returns c = record { codes = refl; examples = examples }
+returns c = record { codes = refl; examples = examples; continuous = refl; gapped = refl }

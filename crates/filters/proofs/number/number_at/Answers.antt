@@ -1,24 +1,18 @@
-use Rattle.std.proofs.Common.{◌≡◌, ℕ, ◌%◌, sym, ap, ◌∙◌, arith, rules}
-use Rattle.filters.proofs.Digits.{digits, digit, spot, digits_step, number_digits}
+use Rattle.std.proofs.Common.{◌+◌, ◌*◌, ◌%◌, get_or, refl, arith, rules, tests}
+use Rattle.std.proofs.lemmas.Iterator.{YieldsList-from_range}
+use Rattle.std.proofs.lemmas.Iterator.Consumers.{fold_from_yields_List}
+use Rattle.filters.proofs.Digits.{spot, number_small}
+use Rattle.filters.proofs.Folding.{callable_in_range, number_fold}
 use Rattle.filters.proofs.number.number_at.Goals as goal
 
-pub overflow_add-v : goal.overflow_add-v
-overflow_add-v c = let h = spot c.loop-x.x c.args.l c.args.g (omega arith) in search rules
-
-pub offset_bounds-codes-i : goal.offset_bounds-codes-i
-offset_bounds-codes-i c = let h = spot c.loop-x.x c.args.l c.args.g (omega arith) in search rules
-
-pub bounds-codes-i : goal.bounds-codes-i
-bounds-codes-i c = let h = spot c.loop-x.x c.args.l c.args.g (omega arith) in search rules
-
-pub loop-x-preserved : goal.loop-x-preserved
-loop-x-preserved c =
-    (omega arith, digits_step (digit c.args.codes.now c.args.g c.args.i) c.loop-x.x c.loop-x.v c.loop-x.invariant.1)
+pub fold-requires-clause-callable : goal.fold-requires-clause-callable
+fold-requires-clause-callable c =
+    callable_in_range (λ x p q k. search (rules, tests)) (λ x v lo hi. let h = spot x c.args.shape.size c.args.shape.gap hi in search rules)
 
 pub returns : goal.returns
 returns c =
-    let e : c.loop-x.x ≡ c.args.l = omega arith in (
-      c.loop-x.invariant.1 ∙ (ap (λ (z : ℕ). digits (digit c.args.codes.now c.args.g c.args.i) z % 1021) e ∙
-          sym (number_digits c.args.l c.args.g c.args.codes.now c.args.i)),
-      omega (arith, c.loop-x.invariant.0),
-    )
+    let e =
+    number_fold c.args.shape.size c.args.shape.gap c.args.codes.now c.fold.result
+    (fold_from_yields_List _ (λ v x. (v * 640 + get_or c.args.codes.now (x * c.args.shape.gap) 0) % 1021) 0 c.fold.result c.fold.ensures.ran
+    (YieldsList-from_range 0 c.args.shape.size c.args.shape.size refl (omega arith)) (λ a x b q k. search (rules, tests))) in
+    (e, omega (arith, e, number_small c.args.shape.size c.args.shape.gap c.args.codes.now 0))

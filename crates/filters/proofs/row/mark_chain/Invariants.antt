@@ -1,8 +1,9 @@
 use Rattle.filters.proofs.Walking.{TupleWalk}
+use Rattle.filters.proofs.Chaining.{past}
 use Rattle.filters.proofs.row.mark_chain.Given as goal
 
-abbrev pub invariant-loop-at : goal.invariant-loop-at
-invariant-loop-at l = TupleWalk l.l l.g l.codes l.trace l.j l.initial.marks l.marks l.at l.n
+abbrev pub invariant-loop-next : goal.invariant-loop-next
+invariant-loop-next l = TupleWalk l.shape.size l.shape.gap l.codes l.tuple l.initial.marks l.marks l.next l.count
 
-abbrev pub decreases-loop-at : goal.decreases-loop-at
-decreases-loop-at l = l.at
+abbrev pub decreases-loop-next : goal.decreases-loop-next
+decreases-loop-next l = past l.next
