@@ -6,15 +6,18 @@ use Rattle.filters.specs.Matching.{count, sum}
 use Rattle.search.specs.Listing.{picks, rows, written, Filled}
 use Rattle.search.proofs.Writing.{written_none, written_more, written_full, written_join}
 
-pub picks_hit : {A : Type 0} (p : ℕ → Bool) (e : ℕ → A) (i w : ℕ) → i < w → p i ≡ true → picks p e i (w - i) ≡ e i ∷ picks p e (i + 1) (w - (i + 1))
-picks_hit p e i w l h =
-    let a : w - i ≡ suc (w - suc i) = omega arith in
-    rw (add-one i, a, h) refl
+-- one more number, from the last down
+pub picks_hit : {A : Type 0} (p : ℕ → Bool) (e : ℕ → A) (y w : ℕ) → 0 < y → y ≤ w → p (y - 1) ≡ true → picks p e (y - 1) (w - (y - 1)) ≡ e (y - 1) ∷ picks p e y (w - y)
+picks_hit p e y w pos le h =
+    let a : w - (y - 1) ≡ suc (w - y) = omega arith in
+    let b : suc (y - 1) ≡ y = omega arith in
+    rw (a, h) (ap (λ z. e (y - 1) ∷ picks p e z (w - y)) b)
 
-pub picks_miss : {A : Type 0} (p : ℕ → Bool) (e : ℕ → A) (i w : ℕ) → i < w → p i ≡ false → picks p e i (w - i) ≡ picks p e (i + 1) (w - (i + 1))
-picks_miss p e i w l h =
-    let a : w - i ≡ suc (w - suc i) = omega arith in
-    rw (add-one i, a, h) refl
+pub picks_miss : {A : Type 0} (p : ℕ → Bool) (e : ℕ → A) (y w : ℕ) → 0 < y → y ≤ w → p (y - 1) ≡ false → picks p e (y - 1) (w - (y - 1)) ≡ picks p e y (w - y)
+picks_miss p e y w pos le h =
+    let a : w - (y - 1) ≡ suc (w - y) = omega arith in
+    let b : suc (y - 1) ≡ y = omega arith in
+    rw (a, h) (ap (λ z. picks p e z (w - y)) b)
 
 pub picks_none : {A : Type 0} (p : ℕ → Bool) (e : ℕ → A) (i n : ℕ) → ((x : ℕ) → i ≤ x → x < i + n → p x ≡ false) → picks p e i n ≡ []
 picks_none p e i zero h = refl

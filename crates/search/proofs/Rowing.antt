@@ -1,74 +1,89 @@
 -- One more window of a row, from the last down.
-use Rattle.std.proofs.Common.{◌≡◌, ℕ, zero, suc, ◌+◌, ◌-◌, ◌<◌, ◌≤◌, Bool, true, false, ◌&&◌, List, ◌∷◌, length, set, sym, refl, ap, subst, arith}
-use Rattle.std.proofs.lemmas.Bool.{and_from, and_right}
+use Rattle.std.proofs.Common.{◌≡◌, ℕ, ◌+◌, ◌-◌, ◌<◌, ◌≤◌, Bool, true, false, ◌&&◌, Some, None, List, ◌∷◌, length, set, sym, refl, ap, ◌∙◌, subst, ⊎_elim, arith}
+use Rattle.std.proofs.lemmas.Bool.{cases_Bool, both_ways, and_from, and_left, and_right}
 use Rattle.search.specs.declared.matches.Match.{Match}
-use Rattle.filters.specs.Matching.{Question, Matches, mismatches, matches_at}
+use Rattle.filters.specs.Matching.{Question, matches_at}
+use Rattle.search.specs.Comparing.{match_at, fits}
 use Rattle.search.specs.Listing.{picks, entry, tested_row, Filled}
-use Rattle.search.proofs.Matched.{matches_true, matches_not}
-use Rattle.search.proofs.Picking.{picks_le, picks_hit, picks_miss, picks_front, filled_none, filled_more, filled_full}
+use Rattle.search.proofs.Matched.{matches_not, matches_fit}
+use Rattle.search.proofs.Picking.{picks_le, picks_none, picks_hit, picks_miss, picks_front, filled_none, filled_more, filled_full}
 
-pub row_hit : (p : ℕ → Bool) (e : ℕ → Match) (y w : ℕ) (b a : List Match) (n n' : ℕ) (v : Match) → Filled b a n n' (picks p e y (w - y)) → 0 < y → y ≤ w → p (y - 1) ≡ true → v ≡ e (y - 1) → n' + 1 ≤ length a → Filled b (set a (length a - (n' + 1)) v) n (n' + 1) (picks p e (y - 1) (w - (y - 1)))
-row_hit p e y w b a n n' v f pos le hit ev room =
-    let q : y - 1 + 1 ≡ y = omega arith in
-    let l = subst (λ (z : ℕ). picks p e (y - 1) (w - (y - 1)) ≡ e (y - 1) ∷ picks p e z (w - z)) q (picks_hit p e (y - 1) w (omega arith) hit) in
-    subst (λ (z : List Match). Filled b (set a (length a - (n' + 1)) v) n (n' + 1) z) (sym l)
-    (subst (λ (z : Match). Filled b (set a (length a - (n' + 1)) v) n (n' + 1) (z ∷ picks p e y (w - y))) ev
-    (filled_more b a (set a (length a - (n' + 1)) v) n n' (picks p e y (w - y)) v f room refl))
-
-pub row_full : (p : ℕ → Bool) (e : ℕ → Match) (y w : ℕ) (b a : List Match) (n n' : ℕ) → Filled b a n n' (picks p e y (w - y)) → 0 < y → y ≤ w → p (y - 1) ≡ true → length a < n' + 1 → Filled b a n (n' + 1) (picks p e (y - 1) (w - (y - 1)))
-row_full p e y w b a n n' f pos le hit full =
-    let q : y - 1 + 1 ≡ y = omega arith in
-    let l = subst (λ (z : ℕ). picks p e (y - 1) (w - (y - 1)) ≡ e (y - 1) ∷ picks p e z (w - z)) q (picks_hit p e (y - 1) w (omega arith) hit) in
-    subst (λ (z : List Match). Filled b a n (n' + 1) z) (sym l) (filled_full b a n n' (picks p e y (w - y)) (e (y - 1)) f full)
-
-pub row_miss : (p : ℕ → Bool) (e : ℕ → Match) (y w : ℕ) (b a : List Match) (n n' : ℕ) → Filled b a n n' (picks p e y (w - y)) → 0 < y → y ≤ w → p (y - 1) ≡ false → Filled b a n n' (picks p e (y - 1) (w - (y - 1)))
-row_miss p e y w b a n n' f pos le miss =
-    let q : y - 1 + 1 ≡ y = omega arith in
-    let l = subst (λ (z : ℕ). picks p e (y - 1) (w - (y - 1)) ≡ picks p e z (w - z)) q (picks_miss p e (y - 1) w (omega arith) miss) in
-    subst (λ (z : List Match). Filled b a n n' z) (sym l) f
+-- which windows of the row j are listed
+abbrev pub listed : (ℕ → ℕ → Bool) → (ℕ → Bool) → Question → List ℕ → ℕ → ℕ → Bool
+listed agree near a t j i = near i && matches_at agree a t i j
 
 -- the windows of the row j from y on have been looked at
-abbrev pub SoFar : ℕ → (ℕ → ℕ → Bool) → (ℕ → Bool) → Question → List ℕ → ℕ → ℕ → List Match → List Match → ℕ → ℕ → Type 0
-SoFar accession agree near a t j y b o n n' = Filled b o n n' (picks (λ i. near i && matches_at agree a t i j) (entry accession agree a t j) y (length a.codes - a.m + 1 - y))
+pub record SoFar (accession : ℕ) (agree : ℕ → ℕ → Bool) (near : ℕ → Bool) (a : Question) (t : List ℕ) (j y : ℕ) (b o : List Match) (n n' : ℕ) : Type 0 where
+  pub filled : Filled b o n n' (picks (listed agree near a t j) (entry accession agree a t j) y (length a.codes - a.m + 1 - y))
 
-pub so_far_few : (accession : ℕ) (agree : ℕ → ℕ → Bool) (near : ℕ → Bool) (a : Question) (t : List ℕ) (j y : ℕ) (b o : List Match) (n n' : ℕ) → SoFar accession agree near a t j y b o n n' → n' ≤ n + (length a.codes - a.m + 1 - y)
-so_far_few accession agree near a t j y b o n n' f =
-    omega (arith, f.counted, picks_le (λ i. near i && matches_at agree a t i j) (entry accession agree a t j) y (length a.codes - a.m + 1 - y))
+pub match_some : (accession : ℕ) (agree : ℕ → ℕ → Bool) (a : Question) (t : List ℕ) (i j : ℕ) (v : Match) → Some v ≡ match_at accession agree a t i j → (matches_at agree a t i j ≡ true) × (v ≡ entry accession agree a t j i)
+match_some accession agree a t i j v e =
+    ⊎_elim (λ (h : matches_at agree a t i j ≡ true). (h, let z : Some v ≡ Some (entry accession agree a t j i) = e ∙ rw h refl in cc))
+    (λ (h : matches_at agree a t i j ≡ false). absurd (let z : Some v ≡ None = e ∙ rw h refl in cc))
+    (cases_Bool (matches_at agree a t i j))
 
-abbrev with_mismatches : ℕ → ℕ → ℕ → ℕ → Match
-with_mismatches accession j i d = record { accession = accession; trace = j; query = i; mismatches = d }
+pub match_none : (accession : ℕ) (agree : ℕ → ℕ → Bool) (a : Question) (t : List ℕ) (i j : ℕ) → None ≡ match_at accession agree a t i j → matches_at agree a t i j ≡ false
+match_none accession agree a t i j e =
+    ⊎_elim (λ (h : matches_at agree a t i j ≡ true). absurd (let z : None ≡ Some (entry accession agree a t j i) = e ∙ rw h refl in cc))
+    (λ (h : matches_at agree a t i j ≡ false). h)
+    (cases_Bool (matches_at agree a t i j))
 
-entry_same : (accession : ℕ) (agree : ℕ → ℕ → Bool) (a : Question) (t : List ℕ) (j i d : ℕ) → d ≡ mismatches agree a.codes t i j a.m → with_mismatches accession j i d ≡ entry accession agree a t j i
-entry_same accession agree a t j i d e = ap (λ (z : ℕ). with_mismatches accession j i z) e
+module _ {accession : ℕ} {agree : ℕ → ℕ → Bool} {near : ℕ → Bool} {a : Question} {t : List ℕ} {j y : ℕ} {b o : List Match} {n n' : ℕ} where
+  pub so_far_few : SoFar accession agree near a t j y b o n n' → n' ≤ n + (length a.codes - a.m + 1 - y)
+  so_far_few f = omega (arith, f.filled.counted, picks_le (listed agree near a t j) (entry accession agree a t j) y (length a.codes - a.m + 1 - y))
 
-pub so_far_hit : (accession : ℕ) (agree : ℕ → ℕ → Bool) (near : ℕ → Bool) (a : Question) (t : List ℕ) (j y : ℕ) (b o : List Match) (n n' d : ℕ) → SoFar accession agree near a t j y b o n n' → 0 < y → y ≤ length a.codes - a.m + 1 → near (y - 1) ≡ true → Matches agree a t (y - 1) j d → n' + 1 ≤ length o →
-    SoFar accession agree near a t j (y - 1) b (set o (length o - (n' + 1)) (record { accession = accession; trace = j; query = y - 1; mismatches = d })) n (n' + 1)
-so_far_hit accession agree near a t j y b o n n' d f pos le h w room =
-    row_hit (λ i. near i && matches_at agree a t i j) (entry accession agree a t j) y (length a.codes - a.m + 1) b o n n' (record { accession = accession; trace = j; query = y - 1; mismatches = d }) f pos le
-    (and_from (near (y - 1)) _ h (matches_true agree a t (y - 1) j d w)) (entry_same accession agree a t j (y - 1) d w.counted) room
+  -- a match for which there is room
+  pub so_far_put : (v : Match) (x : ℕ) → SoFar accession agree near a t j y b o n n' → 0 < y → y ≤ length a.codes - a.m + 1 → near (y - 1) ≡ true → Some v ≡ match_at accession agree a t (y - 1) j → n' + 1 ≤ length o → x ≡ length o - (n' + 1) →
+      SoFar accession agree near a t j (y - 1) b (set o x v) n (n' + 1)
+  so_far_put v x f pos le h e room ex =
+      let m = match_some accession agree a t (y - 1) j v e in
+      let l = picks_hit (listed agree near a t j) (entry accession agree a t j) y (length a.codes - a.m + 1) pos le (and_from (near (y - 1)) _ h m.0) in
+      record {
+        filled = subst (λ (z : List Match). Filled b (set o x v) n (n' + 1) z) (ap (λ (z : Match). z ∷ picks (listed agree near a t j) (entry accession agree a t j) y (length a.codes - a.m + 1 - y)) m.1 ∙ sym l)
+            (filled_more b o (set o x v) n n' (picks (listed agree near a t j) (entry accession agree a t j) y (length a.codes - a.m + 1 - y)) v f.filled room (ap (λ (z : ℕ). set o z v) ex));
+      }
 
-pub so_far_full : (accession : ℕ) (agree : ℕ → ℕ → Bool) (near : ℕ → Bool) (a : Question) (t : List ℕ) (j y : ℕ) (b o : List Match) (n n' d : ℕ) → SoFar accession agree near a t j y b o n n' → 0 < y → y ≤ length a.codes - a.m + 1 → near (y - 1) ≡ true → Matches agree a t (y - 1) j d → length o < n' + 1 →
-    SoFar accession agree near a t j (y - 1) b o n (n' + 1)
-so_far_full accession agree near a t j y b o n n' d f pos le h w full =
-    row_full (λ i. near i && matches_at agree a t i j) (entry accession agree a t j) y (length a.codes - a.m + 1) b o n n' f pos le (and_from (near (y - 1)) _ h (matches_true agree a t (y - 1) j d w)) full
+  -- a match for which there is none
+  pub so_far_count : (v : Match) → SoFar accession agree near a t j y b o n n' → 0 < y → y ≤ length a.codes - a.m + 1 → near (y - 1) ≡ true → Some v ≡ match_at accession agree a t (y - 1) j → length o < n' + 1 → SoFar accession agree near a t j (y - 1) b o n (n' + 1)
+  so_far_count v f pos le h e full =
+      let m = match_some accession agree a t (y - 1) j v e in
+      let l = picks_hit (listed agree near a t j) (entry accession agree a t j) y (length a.codes - a.m + 1) pos le (and_from (near (y - 1)) _ h m.0) in
+      record {
+        filled = subst (λ (z : List Match). Filled b o n (n' + 1) z) (sym l) (filled_full b o n n' (picks (listed agree near a t j) (entry accession agree a t j) y (length a.codes - a.m + 1 - y)) (entry accession agree a t j (y - 1)) f.filled full);
+      }
 
-pub so_far_miss : (accession : ℕ) (agree : ℕ → ℕ → Bool) (near : ℕ → Bool) (a : Question) (t : List ℕ) (j y : ℕ) (b o : List Match) (n n' : ℕ) → SoFar accession agree near a t j y b o n n' → 0 < y → y ≤ length a.codes - a.m + 1 → (near (y - 1) && matches_at agree a t (y - 1) j) ≡ false →
-    SoFar accession agree near a t j (y - 1) b o n n'
-so_far_miss accession agree near a t j y b o n n' f pos le miss =
-    row_miss (λ i. near i && matches_at agree a t i j) (entry accession agree a t j) y (length a.codes - a.m + 1) b o n n' f pos le miss
+  -- a window that is not near, or does not match
+  so_far_less : SoFar accession agree near a t j y b o n n' → 0 < y → y ≤ length a.codes - a.m + 1 → listed agree near a t j (y - 1) ≡ false → SoFar accession agree near a t j (y - 1) b o n n'
+  so_far_less f pos le miss =
+      record { filled = subst (λ (z : List Match). Filled b o n n' z) (sym (picks_miss (listed agree near a t j) (entry accession agree a t j) y (length a.codes - a.m + 1) pos le miss)) f.filled }
 
--- no window starts from length - m + 1 on
-pub row_whole : (accession : ℕ) (agree : ℕ → ℕ → Bool) (near : ℕ → Bool) (a : Question) (t : List ℕ) (j y : ℕ) (b o : List Match) (n n' : ℕ) → a.m ≤ length a.codes → 0 < a.m → y ≤ 0 → SoFar accession agree near a t j y b o n n' → Filled b o n n' (tested_row accession agree a t near j)
-row_whole accession agree near a t j zero b o n n' room some done f =
-    let w : ℕ = length a.codes - a.m + 1 in
-    let e : w - 0 ≡ w = omega arith in
-    let l = picks_front (λ i. near i && matches_at agree a t i j) (entry accession agree a t j) 0 w (length a.codes) (omega arith)
-    (λ x h k. and_right (near x) _ (matches_not agree a t x j (λ m. omega (arith, m.in_query)))) in
-    subst (λ (z : List Match). Filled b o n n' z) (sym l) (subst (λ (z : ℕ). Filled b o n n' (picks (λ i. near i && matches_at agree a t i j) (entry accession agree a t j) 0 z)) e f)
-row_whole accession agree near a t j (suc y) b o n n' room some done f = absurd (let z : ⊥ = omega arith in z)
+  pub so_far_far : SoFar accession agree near a t j y b o n n' → 0 < y → y ≤ length a.codes - a.m + 1 → near (y - 1) ≡ false → SoFar accession agree near a t j (y - 1) b o n n'
+  so_far_far f pos le h = so_far_less f pos le (and_left (near (y - 1)) _ h)
+
+  pub so_far_miss : SoFar accession agree near a t j y b o n n' → 0 < y → y ≤ length a.codes - a.m + 1 → None ≡ match_at accession agree a t (y - 1) j → SoFar accession agree near a t j (y - 1) b o n n'
+  so_far_miss f pos le e = so_far_less f pos le (and_right (near (y - 1)) _ (match_none accession agree a t (y - 1) j e))
+
+  -- no window starts from length - m + 1 on
+  pub so_far_whole : a.m ≤ length a.codes → 0 < a.m → y ≡ 0 → SoFar accession agree near a t j y b o n n' → Filled b o n n' (tested_row accession agree a t near j)
+  so_far_whole room some done f =
+      let w : ℕ = length a.codes - a.m + 1 in
+      let l = picks_front (listed agree near a t j) (entry accession agree a t j) 0 w (length a.codes) (omega arith)
+      (λ x h k. and_right (near x) _ (matches_not agree a t x j (λ m. omega (arith, m.in_query)))) in
+      let e : w - y ≡ w = omega arith in
+      subst (λ (z : List Match). Filled b o n n' z) (ap (λ (z : ℕ). picks (listed agree near a t j) (entry accession agree a t j) z (w - y)) done ∙ (ap (λ (z : ℕ). picks (listed agree near a t j) (entry accession agree a t j) 0 z) e ∙ sym l)) f.filled
+
+-- a row with nothing to list
+pub row_nothing : (accession : ℕ) (agree : ℕ → ℕ → Bool) (near : ℕ → Bool) (a : Question) (t : List ℕ) (j : ℕ) (o : List Match) (c : ℕ) → ((i : ℕ) → listed agree near a t j i ≡ false) → Filled o o c c (tested_row accession agree a t near j)
+row_nothing accession agree near a t j o c h =
+    subst (λ (z : List Match). Filled o o c c z) (sym (picks_none (listed agree near a t j) (entry accession agree a t j) 0 (length a.codes) (λ x l m. h x))) (filled_none o c)
+
+-- windows that do not fit
+pub row_unfit : (accession : ℕ) (agree : ℕ → ℕ → Bool) (near : ℕ → Bool) (a : Question) (t : List ℕ) (j : ℕ) (o : List Match) (c : ℕ) → false ≡ fits a t j → Filled o o c c (tested_row accession agree a t near j)
+row_unfit accession agree near a t j o c e =
+    row_nothing accession agree near a t j o c (λ i. and_right (near i) _ (matches_not agree a t i j (λ w. both_ways (fits a t j) (sym e) (matches_fit agree a t i j _ w))))
 
 -- no window of the row has been looked at
-pub so_far_start : (accession : ℕ) (agree : ℕ → ℕ → Bool) (near : ℕ → Bool) (a : Question) (t : List ℕ) (j y : ℕ) (o : List Match) (n : ℕ) → y ≡ length a.codes - a.m + 1 → SoFar accession agree near a t j y o o n n
-so_far_start accession agree near a t j y o n e =
-    let z : length a.codes - a.m + 1 - y ≡ 0 = omega arith in
-    subst (λ (v : ℕ). Filled o o n n (picks (λ i. near i && matches_at agree a t i j) (entry accession agree a t j) y v)) (sym z) (filled_none o n)
+pub so_far_start : {accession : ℕ} {agree : ℕ → ℕ → Bool} {near : ℕ → Bool} {a : Question} {t : List ℕ} {j y : ℕ} {o : List Match} {n : ℕ} → y ≡ length a.codes - a.m + 1 → SoFar accession agree near a t j y o o n n
+so_far_start {accession} {agree} {near} {a} {t} {j} {y} {o} {n} e =
+    let z : 0 ≡ length a.codes - a.m + 1 - y = omega arith in
+    record { filled = subst (λ (v : ℕ). Filled o o n n (picks (listed agree near a t j) (entry accession agree a t j) y v)) z (filled_none o n) }

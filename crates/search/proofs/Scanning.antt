@@ -1,7 +1,8 @@
 -- One more row of a scan, from the last down.
-use Rattle.std.proofs.Common.{◌≡◌, ℕ, zero, suc, ◌+◌, ◌-◌, ◌*◌, ◌<◌, ◌≤◌, Bool, true, false, ◌&&◌, eqb, ltb, leb, List, ◌++◌, length, get_or, take, drop, sym, refl, ap, ◌∙◌, subst, ⊎_elim, append-nil, zero-add, arith}
-use Rattle.std.proofs.lemmas.Bool.{cases_Bool, and_parts, and_from, and_left, and_right, both_ways, lt-ltb, le-leb}
-use Rattle.std.proofs.lemmas.List.{drop_all}
+use Rattle.std.proofs.Common.{◌≡◌, ℕ, zero, suc, ◌+◌, ◌-◌, ◌*◌, ◌<◌, ◌≤◌, Bool, true, false, ◌&&◌, Ok, Err, eqb, leb, List, ◌++◌, length, get_or, take, drop, sym, refl, ap, ◌∙◌, subst, ⊎_elim, append-nil, zero-add, arith, length-take-le}
+use Rattle.std.proofs.lemmas.Bool.{cases_Bool, cases_eq, cases_lt, and_parts, and_from, and_left, and_right, both_ways, eq-eqb, ne_eqb, lt-ltb, le-ltb}
+use Rattle.std.proofs.lemmas.List.{drop_all, get_or-take}
+use Rattle.search.specs.declared.refusal.Refusal.TheVariants.{TraceTooLong, OtherQuery, MarksTooShort}
 use Rattle.search.specs.declared.matches.Match.{Match}
 use Rattle.search.specs.declared.matches.Found.{Found}
 use Rattle.filters.specs.Matching.{Question, mismatches, matches_at, pairs, count, sum}
@@ -9,89 +10,50 @@ use Rattle.filters.specs.Filters.{Rule, Reach, Pattern, Within, StandsFor, Neces
 use Rattle.filters.specs.Questions.{ahead}
 use Rattle.filters.specs.Counting.{decides_any}
 use Rattle.filters.specs.Pairing.{ahead_at}
-use Rattle.search.specs.Listing.{picks, rows, entry, row_list, match_list, tested_row, tested_list, tested_pairs, Filled, written, back_in}
-use Rattle.search.specs.Scans.{quieter, places_of, Seen, Scanned}
+use Rattle.search.specs.Listing.{picks, rows, entry, match_list, tested_row, tested_list, tested_pairs, Filled, written, back_in}
+use Rattle.search.specs.Scans.{nearer, quieter, places_of, judged, Seen, Scanned}
 use Rattle.search.specs.Words.{Whole}
 use Rattle.search.proofs.Sums.{sum_same, sum_const_le, count_le, count_same, differ_le, bounded}
 use Rattle.search.proofs.Wording.{list_whole}
-use Rattle.search.proofs.Matched.{matches_parts, matches_not}
-use Rattle.search.proofs.Picking.{picks_none, picks_le, picks_count, picks_same, rows_sum, rows_more, rows_le, rows_same, filled_none, filled_join}
-use Rattle.search.proofs.Telling.{Told, Quiet, told_start, told_ahead, quiet_step}
+use Rattle.search.proofs.Matched.{matches_parts}
+use Rattle.search.proofs.Picking.{picks_le, picks_count, picks_same, rows_sum, rows_more, rows_le, rows_same, filled_none, filled_join}
+use Rattle.search.proofs.Rowing.{row_nothing}
+use Rattle.search.proofs.Telling.{Told, Quiet, told_start, told_step, told_skip, told_ahead, quiet_step}
 
 -- the list of a row by the filter as it stands
 abbrev pub seen_row : Pattern → (ℕ → ℕ → Bool) → Question → List ℕ → ℕ → ℕ → List Match
 seen_row p agree a t accession j = tested_row accession agree a t (λ i. ahead (p.marks t) p.span i j) j
 
+-- how many places of a row are passed
+abbrev passed : Pattern → List ℕ → ℕ → ℕ
+passed p t j = count p.size (λ i. p.marks t i j)
+
 -- the rows of the trace from j on have been scanned
 pub record Scanning (p : Pattern) (agree : ℕ → ℕ → Bool) (a : Question) (t : List ℕ) (accession j : ℕ) (told : List ℕ) (quiet : ℕ) (m₀ m : List ℕ) (b o : List Match) (n places : ℕ) : Type 0 where
-  pub full : length told ≡ 1025
   pub tells : Told (p.marks t) p.size p.span j told
   pub still : Quiet (p.marks t) quiet j
   pub scratch : length m ≡ length m₀
   pub filled : Filled b o 0 n (rows (seen_row p agree a t accession) j (length t - j))
   pub counted : places + sum j (λ y. count p.size (λ i. p.marks t i y)) ≡ places_of p t
 
--- no row has more entries than the query has codes
-pub scanning_few : (p : Pattern) (agree : ℕ → ℕ → Bool) (a : Question) (t : List ℕ) (accession j : ℕ) (told : List ℕ) (quiet : ℕ) (m₀ m : List ℕ) (b o : List Match) (n places : ℕ) → length t ≤ 4096 → length a.codes ≤ 1024 → p.size ≤ 1024 → Scanning p agree a t accession j told quiet m₀ m b o n places → (n ≤ 4096 * 1024) × (places ≤ 4096 * 1024)
-scanning_few p agree a t accession j told quiet m₀ m b o n places lt lq ls w =
-    let f = rows_le (seen_row p agree a t accession) 1024 j (length t - j) (λ y. omega (arith, picks_le (λ i. ahead (p.marks t) p.span i y && matches_at agree a t i y) (entry accession agree a t y) 0 (length a.codes))) in
-    let g = sum_const_le (length t) 1024 (λ y. count p.size (λ i. p.marks t i y)) (λ y l. omega (arith, count_le p.size (λ i. p.marks t i y))) in
-    (omega (arith, w.filled.counted), omega (arith, w.counted))
-
-pub scanning_start : (p : Pattern) (agree : ℕ → ℕ → Bool) (a : Question) (t : List ℕ) (accession j : ℕ) (told : List ℕ) (m : List ℕ) (b : List Match) → Within p → length told ≡ 1025 → ((i : ℕ) → i ≤ p.size → get_or told i 0 ≡ p.span + 1) → j ≡ length t → Scanning p agree a t accession j told 0 m m b b 0 0
-scanning_start p agree a t accession j told m b within full blank e =
-    let w : length t - j ≡ 0 = omega arith in
-    record {
-      full = full;
-      tells = told_start (p.marks t) p.size p.span j (length t) told (λ i y h. (within t i y h).1) e blank;
-      still = λ x s l. let z : ⊥ = omega arith in absurd z;
-      scratch = refl;
-      filled = subst (λ (z : ℕ). Filled b b 0 0 (rows (seen_row p agree a t accession) j z)) (sym w) (filled_none b 0);
-      counted = subst (λ (z : ℕ). 0 + sum j (λ y. count p.size (λ i. p.marks t i y)) ≡ sum z (λ y. count p.size (λ i. p.marks t i y))) e (zero-add (sum j (λ y. count p.size (λ i. p.marks t i y))));
-    }
+-- a scan that can be made
+pub judged_ok : (u : Unit {0}) (n q size marks : ℕ) → Ok u ≡ judged n q size marks → (n ≤ 4096) × (q ≡ size) × (size ≤ marks)
+judged_ok u n q size marks e =
+    ⊎_elim (λ (h : 4096 < n). absurd (let z : Ok u ≡ Err TraceTooLong = e ∙ rw (lt-ltb 4096 n h) refl in cc))
+    (λ (h : n ≤ 4096).
+    ⊎_elim
+    (λ (i : q ≡ size).
+    ⊎_elim (λ (k : marks < size). absurd (let z : Ok u ≡ Err MarksTooShort = e ∙ rw (le-ltb 4096 n h, eq-eqb q size i, lt-ltb marks size k) refl in cc))
+    (λ (k : size ≤ marks). (h, i, k)) (cases_lt marks size))
+    (λ (i : q ≡ size → ⊥). absurd (let z : Ok u ≡ Err OtherQuery = e ∙ rw (le-ltb 4096 n h, ne_eqb q size i) refl in cc))
+    (cases_eq q size))
+    (cases_lt 4096 n)
 
 filled_row : (f : ℕ → List Match) (y n : ℕ) (b o o' : List Match) (c c' : ℕ) → 0 < y → y ≤ n → Filled b o 0 c (rows f y (n - y)) → Filled o o' c c' (f (y - 1)) → Filled b o' 0 c' (rows f (y - 1) (n - (y - 1)))
 filled_row f y n b o o' c c' pos le x z =
     let q : y - 1 + 1 ≡ y = omega arith in
     let l = subst (λ (v : ℕ). rows f (y - 1) (n - (y - 1)) ≡ f (y - 1) ++ rows f v (n - v)) q (rows_more f (y - 1) n (omega arith)) in
     subst (λ (v : List Match). Filled b o' 0 c' v) (sym l) (filled_join b o o' 0 c c' (rows f y (n - y)) (f (y - 1)) x z)
-
-pub scanning_more : (p : Pattern) (agree : ℕ → ℕ → Bool) (a : Question) (t : List ℕ) (accession y : ℕ) (told told' : List ℕ) (quiet cap row : ℕ) (m₀ m m' : List ℕ) (b o o' : List Match) (n n' places : ℕ) →
-    Within p → 0 < y → y ≤ length t → Scanning p agree a t accession y told quiet m₀ m b o n places →
-    Marked (λ i. p.marks t i (y - 1)) p.size m m' row →
-    length told' ≡ 1025 → Told (p.marks t) p.size p.span (y - 1) told' → Filled o o' n n' (seen_row p agree a t accession (y - 1)) →
-    Scanning p agree a t accession (y - 1) told' (quieter cap row quiet) m₀ m' b o' n' (places + row)
-scanning_more p agree a t accession zero told told' quiet cap row m₀ m m' b o o' n n' places within pos le w mk full near filled = absurd (let z : ⊥ = omega arith in z)
-scanning_more p agree a t accession (suc y) told told' quiet cap row m₀ m m' b o o' n n' places within pos le w mk full near filled =
-    let q : suc y - 1 ≡ y = omega arith in
-    record {
-      full = full;
-      tells = near;
-      still = quiet_step (p.marks t) p.size cap (suc y) quiet row (λ i x h. (within t i x h).0) pos w.still mk.count;
-      scratch = mk.keeps ∙ w.scratch;
-      filled = filled_row (seen_row p agree a t accession) (suc y) (length t) b o o' n n' pos le w.filled filled;
-      counted = subst (λ (v : ℕ). places + row + sum v (λ y. count p.size (λ i. p.marks t i y)) ≡ places_of p t) (sym q)
-          (let e = subst (λ (v : ℕ). row ≡ count p.size (λ i. p.marks t i v)) q mk.count in omega (arith, w.counted));
-    }
-
--- what the windows of a row are, by the array, and by the filter
-pub row_told : (p : Pattern) (agree : ℕ → ℕ → Bool) (a : Question) (t : List ℕ) (accession j : ℕ) (told : List ℕ) (o o' : List Match) (n n' : ℕ) → length a.codes ≡ p.size → Told (p.marks t) p.size p.span j told → Filled o o' n n' (tested_row accession agree a t (λ i. leb (get_or told i 0) p.span) j) → Filled o o' n n' (seen_row p agree a t accession j)
-row_told p agree a t accession j told o o' n n' e w f =
-    subst (λ (z : List Match). Filled o o' n n' z)
-    (picks_same (λ i. leb (get_or told i 0) p.span && matches_at agree a t i j) (λ i. ahead (p.marks t) p.span i j && matches_at agree a t i j) (entry accession agree a t j) 0 (length a.codes)
-    (λ i l h. ap (λ z. z && matches_at agree a t i j) (told_ahead (p.marks t) p.size p.span j told w i (omega arith)))) f
-
--- a row with nothing to list
-pub row_nothing : (p : Pattern) (agree : ℕ → ℕ → Bool) (a : Question) (t : List ℕ) (accession j : ℕ) (o : List Match) (c : ℕ) → ((i : ℕ) → (ahead (p.marks t) p.span i j && matches_at agree a t i j) ≡ false) → Filled o o c c (seen_row p agree a t accession j)
-row_nothing p agree a t accession j o c h =
-    subst (λ (z : List Match). Filled o o c c z) (sym (picks_none (λ i. ahead (p.marks t) p.span i j && matches_at agree a t i j) (entry accession agree a t j) 0 (length a.codes) (λ x l m. h x))) (filled_none o c)
-
--- windows that do not fit
-pub row_unfit : (p : Pattern) (agree : ℕ → ℕ → Bool) (a : Question) (t : List ℕ) (accession j q left : ℕ) (o : List Match) (c : ℕ) → q ≡ length a.codes → left ≡ length t - j → j < length t → (false ≡ (ltb 0 a.m && (leb a.m q && leb a.m left))) → Filled o o c c (seen_row p agree a t accession j)
-row_unfit p agree a t accession j q left o c eq el l e =
-    row_nothing p agree a t accession j o c (λ i. and_right (ahead (p.marks t) p.span i j) _ (matches_not agree a t i j (λ w.
-    both_ways (ltb 0 a.m && (leb a.m q && leb a.m left)) (sym e)
-    (and_from (ltb 0 a.m) _ (lt-ltb 0 a.m w.some) (and_from (leb a.m q) _ (le-leb a.m q (omega (arith, w.in_query))) (le-leb a.m left (omega (arith, w.in_trace))))))))
 
 ahead_quiet : (p : ℕ → ℕ → Bool) (r n j i : ℕ) → Quiet p n j → r < n → ahead p r i j ≡ false
 ahead_quiet p r n j i quiet l =
@@ -101,35 +63,85 @@ ahead_quiet p r n j i quiet l =
     absurd (both_ways (p (i + s) (j + s)) (quiet (i + s) s (omega (arith, w.1))) w.2))
     (λ (e : ahead p r i j ≡ false). e) (cases_Bool (ahead p r i j))
 
--- a row that was skipped
-pub row_skipped : (p : Pattern) (agree : ℕ → ℕ → Bool) (a : Question) (t : List ℕ) (accession j n : ℕ) (o : List Match) (c : ℕ) → Quiet (p.marks t) n j → p.span + 1 < n → Filled o o c c (seen_row p agree a t accession j)
-row_skipped p agree a t accession j n o c quiet l =
-    row_nothing p agree a t accession j o c (λ i. and_left (ahead (p.marks t) p.span i j) _ (ahead_quiet (p.marks t) p.span n j i quiet (omega arith)))
+module _ {p : Pattern} {agree : ℕ → ℕ → Bool} {a : Question} {t : List ℕ} {accession y : ℕ} {told : List ℕ} {quiet : ℕ} {m₀ m : List ℕ} {b o : List Match} {n places : ℕ} where
+  -- no row has more entries than the query has codes
+  pub scanning_few : length t ≤ 4096 → length a.codes ≤ 1024 → p.size ≤ 1024 → Scanning p agree a t accession y told quiet m₀ m b o n places → (n ≤ 4096 * 1024) × (places ≤ 4096 * 1024)
+  scanning_few lt lq ls w =
+      let f = rows_le (seen_row p agree a t accession) 1024 y (length t - y) (λ x. omega (arith, picks_le (λ i. ahead (p.marks t) p.span i x && matches_at agree a t i x) (entry accession agree a t x) 0 (length a.codes))) in
+      let g = sum_const_le (length t) 1024 (passed p t) (λ x l. omega (arith, count_le p.size (λ i. p.marks t i x))) in
+      (omega (arith, w.filled.counted), omega (arith, w.counted))
+
+  pub scanning_more : {told' : List ℕ} {quiet' row : ℕ} {m' : List ℕ} {o' : List Match} {n' : ℕ} (cap : ℕ) →
+      Within p → 0 < y → y ≤ length t → Scanning p agree a t accession y told quiet m₀ m b o n places →
+      Marked (λ i. p.marks t i (y - 1)) p.size m m' row → quiet' ≡ quieter cap row quiet →
+      Told (p.marks t) p.size p.span (y - 1) told' → Filled o o' n n' (seen_row p agree a t accession (y - 1)) →
+      Scanning p agree a t accession (y - 1) told' quiet' m₀ m' b o' n' (places + row)
+  scanning_more {told'} {quiet'} {row} {m'} {o'} {n'} cap within pos le w mk eq near filled =
+      let q : y ≡ suc (y - 1) = omega arith in
+      record {
+        tells = near;
+        still = subst (λ (v : ℕ). Quiet (p.marks t) v (y - 1)) (sym eq) (quiet_step (p.marks t) p.size cap y quiet row (λ i x h. (within t i x h).0) pos w.still mk.count);
+        scratch = mk.keeps ∙ w.scratch;
+        filled = filled_row (seen_row p agree a t accession) y (length t) b o o' n n' pos le w.filled filled;
+        counted = let e = subst (λ (v : ℕ). places + sum v (passed p t) ≡ places_of p t) q w.counted in omega (arith, mk.count);
+      }
+
+  -- a row that is skipped
+  pub scanning_skip : {quiet' row : ℕ} {m' : List ℕ} (cap : ℕ) →
+      Within p → 0 < y → y ≤ length t → Scanning p agree a t accession y told quiet m₀ m b o n places →
+      Marked (λ i. p.marks t i (y - 1)) p.size m m' row → quiet' ≡ quieter cap row quiet → p.span + 1 < quiet' →
+      Scanning p agree a t accession (y - 1) told quiet' m₀ m' b o n (places + row)
+  scanning_skip {quiet'} {row} {m'} cap within pos le w mk eq far =
+      let still = subst (λ (v : ℕ). Quiet (p.marks t) v (y - 1)) (sym eq) (quiet_step (p.marks t) p.size cap y quiet row (λ i x h. (within t i x h).0) pos w.still mk.count) in
+      scanning_more cap within pos le w mk eq (told_skip (p.marks t) p.size p.span y quiet' told pos w.tells still far)
+      (row_nothing accession agree (λ i. ahead (p.marks t) p.span i (y - 1)) a t (y - 1) o n (λ i. and_left (ahead (p.marks t) p.span i (y - 1)) _ (ahead_quiet (p.marks t) p.span quiet' (y - 1) i still (omega arith))))
+
+pub scanning_start : {p : Pattern} {agree : ℕ → ℕ → Bool} {a : Question} {t : List ℕ} {accession j : ℕ} {told m : List ℕ} {b : List Match} → Within p → ((i : ℕ) → i ≤ p.size → get_or told i 0 ≡ p.span + 1) → j ≡ length t → Scanning p agree a t accession j told 0 m m b b 0 0
+scanning_start {p} {agree} {a} {t} {accession} {j} {told} {m} {b} within blank e =
+    let w : length t - j ≡ 0 = omega arith in
+    record {
+      tells = told_start (p.marks t) p.size p.span j (length t) told (λ i y h. (within t i y h).1) e blank;
+      still = λ x s l. let z : ⊥ = omega arith in absurd z;
+      scratch = refl;
+      filled = subst (λ (z : ℕ). Filled b b 0 0 (rows (seen_row p agree a t accession) j z)) (sym w) (filled_none b 0);
+      counted = subst (λ (z : ℕ). 0 + sum j (passed p t) ≡ sum z (passed p t)) e (zero-add (sum j (passed p t)));
+    }
+
+-- the array after a row of marks
+pub row_approached : (p : Pattern) (t : List ℕ) {y : ℕ} {m m' front old new : List ℕ} {row reach : ℕ} → Within p → 0 < y → Told (p.marks t) p.size p.span y old → Marked (λ i. p.marks t i (y - 1)) p.size m m' row → front ≡ take p.size m' → reach ≡ p.span →
+    ((i : ℕ) → i < length front → get_or new i 0 ≡ nearer (reach + 1) (get_or front i 0) (get_or old (suc i) 0)) → ((i : ℕ) → length front ≤ i → get_or new i 0 ≡ get_or old i 0) → Told (p.marks t) p.size p.span (y - 1) new
+row_approached p t {y} {m} {m'} {front} {old} {new} {row} {reach} within pos w mk ef er near rest =
+    let lf : length front ≡ p.size = ap length ef ∙ length-take-le p.size m' (omega (arith, mk.room, mk.keeps)) in
+    told_step (p.marks t) p.size p.span y m' old new (λ i x h. (within t i x h).0) pos w mk.marks
+    (λ i l. near i (omega arith) ∙ (ap (λ (z : ℕ). nearer (z + 1) (get_or front i 0) (get_or old (suc i) 0)) er ∙
+    ap (λ (z : ℕ). nearer (p.span + 1) z (get_or old (suc i) 0)) (ap (λ (z : List ℕ). get_or z i 0) ef ∙ get_or-take p.size m' i 0 l)))
+    (λ i l. rest i (omega arith))
+
+-- what the windows of a row are, by the array, and by the filter
+pub row_told : (p : Pattern) (agree : ℕ → ℕ → Bool) (a : Question) (t : List ℕ) (accession : ℕ) {j reach : ℕ} {told : List ℕ} {o o' : List Match} {n n' : ℕ} → length a.codes ≡ p.size → reach ≡ p.span → Told (p.marks t) p.size p.span j told → Filled o o' n n' (tested_row accession agree a t (λ i. leb (get_or told i 0) reach) j) → Filled o o' n n' (seen_row p agree a t accession j)
+row_told p agree a t accession {j} {reach} {told} {o} {o'} {n} {n'} e er w f =
+    subst (λ (z : List Match). Filled o o' n n' z)
+    (picks_same (λ i. leb (get_or told i 0) reach && matches_at agree a t i j) (λ i. ahead (p.marks t) p.span i j && matches_at agree a t i j) (entry accession agree a t j) 0 (length a.codes)
+    (λ i l h. ap (λ z. z && matches_at agree a t i j) (ap (leb (get_or told i 0)) er ∙ told_ahead (p.marks t) p.size p.span j told w i (omega arith)))) f
+
+-- a list has an entry for each place that passes its test
+counted : (accession : ℕ) (agree : ℕ → ℕ → Bool) (a : Question) (t : List ℕ) (test : ℕ → ℕ → Bool) → length (rows (λ j. picks (λ i. test i j) (entry accession agree a t j) 0 (length a.codes)) 0 (length t)) ≡ sum (length t) (λ j. count (length a.codes) (λ i. test i j))
+counted accession agree a t test =
+    let f : ℕ → List Match = λ j. picks (λ i. test i j) (entry accession agree a t j) 0 (length a.codes) in
+    let z : 0 + length t ≡ length t = omega arith in
+    let x = subst (λ (v : ℕ). sum v (λ y. length (f y)) ≡ 0 + length (rows f 0 (length t))) z (rows_sum f 0 (length t)) in
+    let v : 0 + length a.codes ≡ length a.codes = omega arith in
+    let y = sum_same (length t) (λ y. length (f y)) (λ y. count (length a.codes) (λ i. test i y))
+    (λ y l.
+    let e = subst (λ (u : ℕ). count u (λ i. test i y) ≡ 0 + length (f y)) v (picks_count (λ i. test i y) (entry accession agree a t y) 0 (length a.codes)) in
+    omega arith) in
+    omega arith
 
 tested_counted : (accession : ℕ) (agree : ℕ → ℕ → Bool) (a : Question) (t : List ℕ) (near : ℕ → ℕ → Bool) → length (tested_list accession agree a t near) ≡ tested_pairs agree a t near
-tested_counted accession agree a t near =
-    let f : ℕ → List Match = λ j. tested_row accession agree a t (λ i. near i j) j in
-    let z : 0 + length t ≡ length t = omega arith in
-    let x = subst (λ (v : ℕ). sum v (λ y. length (f y)) ≡ 0 + length (rows f 0 (length t))) z (rows_sum f 0 (length t)) in
-    let v : 0 + length a.codes ≡ length a.codes = omega arith in
-    let y = sum_same (length t) (λ y. length (f y)) (λ y. count (length a.codes) (λ i. near i y && matches_at agree a t i y))
-    (λ y l.
-    let e = subst (λ (u : ℕ). count u (λ i. near i y && matches_at agree a t i y) ≡ 0 + length (f y)) v (picks_count (λ i. near i y && matches_at agree a t i y) (entry accession agree a t y) 0 (length a.codes)) in
-    omega arith) in
-    omega arith
+tested_counted accession agree a t near = counted accession agree a t (λ i j. near i j && matches_at agree a t i j)
 
--- the list has an entry for each pair
 pub list_counted : (accession : ℕ) (agree : ℕ → ℕ → Bool) (a : Question) (t : List ℕ) → length (match_list accession agree a t) ≡ pairs agree a t
-list_counted accession agree a t =
-    let f : ℕ → List Match = row_list accession agree a t in
-    let z : 0 + length t ≡ length t = omega arith in
-    let x = subst (λ (v : ℕ). sum v (λ y. length (f y)) ≡ 0 + length (rows f 0 (length t))) z (rows_sum f 0 (length t)) in
-    let v : 0 + length a.codes ≡ length a.codes = omega arith in
-    let y = sum_same (length t) (λ y. length (f y)) (λ y. count (length a.codes) (λ i. matches_at agree a t i y))
-    (λ y l.
-    let e = subst (λ (u : ℕ). count u (λ i. matches_at agree a t i y) ≡ 0 + length (f y)) v (picks_count (λ i. matches_at agree a t i y) (entry accession agree a t y) 0 (length a.codes)) in
-    omega arith) in
-    omega arith
+list_counted accession agree a t = counted accession agree a t (λ i j. matches_at agree a t i j)
 
 -- nothing was written before
 whole_back : (b l : List Match) → written b (length b - 0) l ≡ back_in b l
@@ -146,11 +158,11 @@ exact_room b l e =
     let y : length l - length b ≡ 0 = omega arith in
     ap (λ (v : ℕ). take v b ++ drop (length l - length b) l) x ∙ ap (λ (v : ℕ). drop v l) y
 
-pub seen_all : (p : Pattern) (agree : ℕ → ℕ → Bool) (a : Question) (t : List ℕ) (accession y : ℕ) (told : List ℕ) (quiet : ℕ) (m₀ m : List ℕ) (b o : List Match) (n places : ℕ) →
+pub seen_all : {p : Pattern} {agree : ℕ → ℕ → Bool} {a : Question} {t : List ℕ} {accession y : ℕ} {told : List ℕ} {quiet : ℕ} {m₀ m : List ℕ} {b o : List Match} {n places : ℕ} →
     Within p → length a.codes ≡ p.size → length t ≤ 4096 → p.size ≤ length m₀ →
     y ≤ 0 → Scanning p agree a t accession y told quiet m₀ m b o n places → Seen p agree a t accession m₀ m b o (record { pairs = n; places = places })
-seen_all p agree a t accession (suc y) told quiet m₀ m b o n places within eq lt room done w = absurd (let z : ⊥ = omega arith in z)
-seen_all p agree a t accession zero told quiet m₀ m b o n places within eq lt room done w =
+seen_all {y = suc y} within eq lt room done w = absurd (let z : ⊥ = omega arith in z)
+seen_all {p} {agree} {a} {t} {accession} {y = zero} {told} {quiet} {m₀} {m} {b} {o} {n} {places} within eq lt room done w =
     let near : ℕ → ℕ → Bool = ahead (p.marks t) p.span in
     let z : length t - 0 ≡ length t = omega arith in
     let f = subst (λ (v : ℕ). Filled b o 0 n (rows (seen_row p agree a t accession) 0 v)) z w.filled in
@@ -195,9 +207,9 @@ no_loss rule reach nec agree equal p a st t i j =
     (λ (e : matches_at agree a t i j ≡ false). and_right (ahead (p.marks t) p.span i j) _ e ∙ sym e)
     (cases_Bool (matches_at agree a t i j))
 
-pub seen_whole : (rule : Rule) (reach : Reach) → Necessary rule reach → (agree : ℕ → ℕ → Bool) → ((x y : ℕ) → agree x y ≡ true → x ≡ y) → (p : Pattern) (a : Question) (t : List ℕ) (accession : ℕ) (m₀ m : List ℕ) (b o : List Match) (f : Found) →
+pub seen_whole : {rule : Rule} {reach : Reach} → Necessary rule reach → {agree : ℕ → ℕ → Bool} → ((x y : ℕ) → agree x y ≡ true → x ≡ y) → {p : Pattern} {a : Question} {t : List ℕ} {accession : ℕ} {m₀ m : List ℕ} {b o : List Match} {f : Found} →
     Seen p agree a t accession m₀ m b o f → StandsFor rule reach p a → Scanned rule reach agree a t accession b o f
-seen_whole rule reach nec agree equal p a t accession m₀ m b o f w st =
+seen_whole {rule} {reach} nec {agree} equal {p} {a} {t} {accession} {m₀} {m} {b} {o} {f} w st =
     let near : ℕ → ℕ → Bool = ahead (p.marks t) p.span in
     let loss = no_loss rule reach nec agree equal p a st t in
     let pn : tested_pairs agree a t near ≡ pairs agree a t =

@@ -166,7 +166,7 @@ kept_longer agree a t m' k' i j d some le kk w =
       },
     )
 
-at_most_one : (b : Bool) → cond b 0 1 ≤ 1
+pub at_most_one : (b : Bool) → cond b 0 1 ≤ 1
 at_most_one true = omega arith
 at_most_one false = omega arith
 

@@ -40,6 +40,10 @@ Refused TraceTooLong q size n marks = 4096 < n
 Refused OtherQuery q size n marks = (n ≤ 4096) × (q ≢ size)
 Refused MarksTooShort q size n marks = (n ≤ 4096) × (q ≡ size) × (marks < size)
 
+-- what is answered before a scan
+abbrev pub judged : ℕ → ℕ → ℕ → ℕ → Result (Unit {0}) Refusal
+judged n q size marks = cond (nat_lt 4096 n) (Err TraceTooLong) (cond (q == size) (cond (nat_lt marks size) (Err MarksTooShort) (Ok tt)) (Err OtherQuery))
+
 abbrev pub ScanAnswer : Pattern → (ℕ → ℕ → Bool) → Question → List ℕ → ℕ → List ℕ → List ℕ → List Match → List Match → Result Found Refusal → Type 0
 ScanAnswer p agree a t accession marks marks' before after (Ok f) = Seen p agree a t accession marks marks' before after f
 ScanAnswer p agree a t accession marks marks' before after (Err e) = Refused e (length a.codes) p.size (length t) (length marks) × (after ≡ before) × (marks' ≡ marks)

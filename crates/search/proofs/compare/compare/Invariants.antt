@@ -1,6 +1,6 @@
-use Rattle.std.proofs.Common.{◌≡◌, ◌≤◌}
+use Rattle.std.proofs.Common.{◌≡◌, ◌≤◌, length}
 use Rattle.filters.specs.Matching.{mismatches}
 use Rattle.search.proofs.compare.compare.Given as goal
 
-abbrev pub invariant-loop-x : goal.invariant-loop-x
-invariant-loop-x g l = (l.n ≡ mismatches g.S.Sample.kind.agree l.query l.trace l.i l.j l.x) × (l.n ≤ l.x) × (l.n ≤ l.k)
+abbrev pub invariant-loop-code : goal.invariant-loop-code
+invariant-loop-code g l = (l.n ≡ mismatches g.S.Sample.kind.agree l.window l.other 0 0 (length l.yielded)) × (l.n ≤ l.k) × (l.n ≤ length l.yielded) × (length l.yielded ≤ length l.window)
