@@ -1,6 +1,5 @@
 -- Rows get their new counts, one by one.
-use Rattle.std.proofs.Common.{◌≡◌, ℕ, zero, suc, ◌+◌, ◌<◌, ◌≤◌, List, [], ◌∷◌, ◌++◌, length, get_or, take, drop, set, refl, ap, ◌∙◌, add-one, arith}
-use Rattle.std.proofs.lemmas.List.{length-append, length-take-le, length-drop, take_at}
+use Rattle.std.proofs.Common.{◌≡◌, ℕ, zero, suc, ◌+◌, ◌<◌, ◌≤◌, List, [], ◌∷◌, length, get_or, take, set, refl, ap, add-one, arith}
 use Rattle.std.proofs.lemmas.List.Sums.{sum_by-cons}
 use Rattle.catalog.specs.declared.row.Row.{Row}
 use Rattle.catalog.specs.declared.row.Count.{Count}
@@ -10,35 +9,27 @@ use Rattle.catalog.specs.Rows.{blank, with_count, recounted, pairs_of_counts, pa
 abbrev pub none : Count
 none = record { pairs = 0; places = 0 }
 
--- as many rows as before
-pub length_recounted : (rs : List Row) (cs : List Count) → length (recounted rs cs) ≡ length rs
-length_recounted [] cs = refl
-length_recounted (r ∷ rs) [] = refl
-length_recounted (r ∷ rs) (c ∷ cs) = ap suc (length_recounted rs cs)
+-- no row has its new count
+pub recounted_none : (rs : List Row) → recounted rs [] ≡ rs
+recounted_none [] = refl
+recounted_none (r ∷ rs) = refl
 
--- the first i rows are counted; one more is
-abbrev pub Counted : List Row → List Row → List Count → ℕ → Type 0
-Counted rows now cs i = now ≡ recounted (take i rows) cs ++ drop i rows
+-- one more row has
+recounted_next : (rs : List Row) (cs : List Count) (i : ℕ) → i < length rs → i < length cs → set (recounted rs (take i cs)) i (with_count (get_or cs i none) (get_or (recounted rs (take i cs)) i blank)) ≡ recounted rs (take (suc i) cs)
+recounted_next [] cs i a b = let z : ⊥ = omega arith in absurd z
+recounted_next (r ∷ rs) [] i a b = let z : ⊥ = omega arith in absurd z
+recounted_next (r ∷ rs) (c ∷ cs) zero a b = rw (recounted_none rs) refl
+recounted_next (r ∷ rs) (c ∷ cs) (suc i) a b = ap (λ (x : List Row). with_count c r ∷ x) (recounted_next rs cs i (omega arith) (omega arith))
 
-counted_next : (rows : List Row) (cs : List Count) (i : ℕ) → i < length rows → i < length cs → set (recounted (take i rows) cs ++ drop i rows) i (with_count (get_or cs i none) (get_or (recounted (take i rows) cs ++ drop i rows) i blank)) ≡ recounted (take (suc i) rows) cs ++ drop (suc i) rows
-counted_next [] cs i a b = let z : ⊥ = omega arith in absurd z
-counted_next (r ∷ rows) [] i a b = let z : ⊥ = omega arith in absurd z
-counted_next (r ∷ rows) (c ∷ cs) zero a b = refl
-counted_next (r ∷ rows) (c ∷ cs) (suc i) a b = ap (λ (x : List Row). with_count c r ∷ x) (counted_next rows cs i (omega arith) (omega arith))
+pub recounted_more : (rs now : List Row) (cs : List Count) (i : ℕ) → i < length rs → i < length cs → now ≡ recounted rs (take i cs) → set now i (with_count (get_or cs i none) (get_or now i blank)) ≡ recounted rs (take (i + 1) cs)
+recounted_more rs now cs i a b h = rw (h, add-one i) (recounted_next rs cs i a b)
 
-module _ (rows now : List Row) (cs : List Count) (i : ℕ) where
-  pub counted_step : i < length rows → i < length cs → Counted rows now cs i → Counted rows (set now i (with_count (get_or cs i none) (get_or now i blank))) cs (i + 1)
-  counted_step a b h = rw (h, add-one i) (counted_next rows cs i a b)
-
-  -- all of them are
-  pub counted_length : i ≤ length rows → Counted rows now cs i → length now ≡ length rows
-  counted_length a h =
-      let l : length (take i rows) ≡ i = length-take-le i rows a in
-      rw h (simp (length-append, length_recounted, length-drop) (omega arith))
-
-  pub counted_end : i ≤ length rows → Counted rows now cs i → take i now ≡ recounted (take i rows) cs
-  counted_end a h =
-      rw h (take_at (recounted (take i rows) cs) (drop i rows) i (length_recounted (take i rows) cs ∙ length-take-le i rows a))
+-- counts for the first n rows are for them alone
+pub recounted_front : (rs : List Row) (cs : List Count) (n : ℕ) → n ≤ length cs → take n (recounted rs (take n cs)) ≡ recounted (take n rs) cs
+recounted_front rs cs zero le = refl
+recounted_front [] cs (suc n) le = refl
+recounted_front (r ∷ rs) [] (suc n) le = let z : ⊥ = omega arith in absurd z
+recounted_front (r ∷ rs) (c ∷ cs) (suc n) le = ap (λ (x : List Row). with_count c r ∷ x) (recounted_front rs cs n (omega arith))
 
 -- a new count leaves each row's length
 pub length_kept : (rs : List Row) (cs : List Count) (i : ℕ) → (get_or (recounted rs cs) i blank).length ≡ (get_or rs i blank).length

@@ -1,8 +1,8 @@
 -- What the rows in use add up to, and what a change of the rows leaves of it.
-use Rattle.std.proofs.Common.{◌≡◌, ℕ, suc, ◌+◌, ◌-◌, ◌<◌, ◌≤◌, min, List, length, get_or, take, drop, set, sum_by, sym, refl, ap, ◌∙◌, ⊎_elim, add-one, arith}
+use Rattle.std.proofs.Common.{◌≡◌, ℕ, suc, ◌+◌, ◌-◌, ◌<◌, ◌≤◌, List, length, get_or, take, drop, set, sum_by, refl, ap, ◌∙◌, ⊎_elim, add-one, arith}
 use lib.Seq.{take-set-lt}
 use Rattle.std.specs.List.{remove}
-use Rattle.std.proofs.lemmas.List.{get_or-take, length-take, length-take-le, take-take, take_all, take_more_set, get_or-set_same, get_or-set_other, set_past}
+use Rattle.std.proofs.lemmas.List.{get_or-take, length-take-le, take_more_set, get_or-set_same, get_or-set_other}
 use Rattle.std.proofs.lemmas.List.Sums.{sum_by-set, sum_by_push, sum_by-append, sum_by-take-drop, sum_by-take-le, sum_by-drop_more}
 use Rattle.std.proofs.lemmas.List.Edits.{get_or-remove_below, get_or-remove_above}
 use Rattle.std.proofs.lemmas.Bool.{cases_eq, cases_lt}
@@ -10,33 +10,20 @@ use Rattle.catalog.specs.declared.row.Row.{Row}
 use Rattle.catalog.specs.declared.row.Count.{Count}
 use Rattle.catalog.specs.declared.row.Totals.{Totals}
 use Rattle.catalog.specs.Gaps.{closed}
-use Rattle.catalog.specs.Rows.{blank, samples_in, pairs_in, places_in, totals_of, with_loans, recounted, pairs_of_counts}
+use Rattle.catalog.specs.Rows.{blank, samples_in, pairs_in, totals_of, with_loans, recounted, pairs_of_counts}
 use Rattle.catalog.proofs.Closing.{one_out}
-use Rattle.catalog.proofs.Counting.{length_kept, samples_kept, pairs_new}
+use Rattle.catalog.proofs.Counting.{recounted_front, length_kept, samples_kept, pairs_new}
 
 -- no row in use is longer than a trace
 abbrev pub Short : List Row → ℕ → Type 0
 Short rows used = (i : ℕ) → i < used → (get_or rows i blank).length ≤ 4096
 
--- the front of a front
-pub front_min : (rows : List Row) (n used i : ℕ) → i ≡ min n used → take n (take used rows) ≡ take i rows
-front_min rows n used i e =
-    ⊎_elim
-    (λ (l : n < used). let f : i ≡ n = omega arith in rw f (take-take n used rows (omega arith)))
-    (λ (l : used ≤ n). let f : i ≡ used = omega arith in rw f (take_all n (take used rows) (omega (arith, length-take used rows))))
-    (cases_lt n used)
-
--- totals of the first i rows: what the sums are, and that they fit where those of all rows do
-module _ (rows : List Row) (n used i : ℕ) (t : Totals) (e : i ≡ min n used) where
-  pub totals_end : t.samples ≡ samples_in (take i rows) → t.pairs ≡ pairs_in (take i rows) → t.places ≡ places_in (take i rows) → t ≡ totals_of (take n (take used rows))
-  totals_end s p q = rw (front_min rows n used i e, ← s, ← p, ← q) refl
-
-  pub totals_fit : (store list : ℕ) → t.samples ≡ samples_in (take i rows) → t.pairs ≡ pairs_in (take i rows) → samples_in (take used rows) ≤ store → pairs_in (take used rows) ≤ list → (t.samples ≤ store) × (t.pairs ≤ list)
-  totals_fit store list s p a b =
-      let f : take i (take used rows) ≡ take i rows = take-take i used rows (omega arith) in
-      let x : samples_in (take i rows) ≤ samples_in (take used rows) = rw (← f) (sum_by-take-le (λ (r : Row). r.length) (take used rows) i) in
-      let y : pairs_in (take i rows) ≤ pairs_in (take used rows) = rw (← f) (sum_by-take-le (λ (r : Row). r.pairs) (take used rows) i) in
-      (omega arith, omega arith)
+-- totals of some rows fit where those of all rows do
+pub totals_fit : (rs : List Row) (n : ℕ) (t : Totals) (store list : ℕ) → t ≡ totals_of (take n rs) → samples_in rs ≤ store → pairs_in rs ≤ list → (t.samples ≤ store) × (t.pairs ≤ list)
+totals_fit rs n t store list e a b =
+    let s = sum_by-take-le (λ (r : Row). r.length) rs n in
+    let p = sum_by-take-le (λ (r : Row). r.pairs) rs n in
+    (omega (arith, ap (λ (x : Totals). x.samples) e), omega (arith, ap (λ (x : Totals). x.pairs) e))
 
 -- a row in use gets another count of loans
 module _ (rows : List Row) (used at loans : ℕ) (few : used ≤ length rows) where
@@ -47,10 +34,6 @@ module _ (rows : List Row) (used at loans : ℕ) (few : used ≤ length rows) wh
   loans_set lt =
       let g : get_or (take used rows) at blank ≡ get_or rows at blank = get_or-take used rows at blank lt in
       rw g (take-set-lt used rows at _ lt)
-
-  -- where there is no such row
-  pub loans_past : used ≤ at → take used rows ≡ set (take used rows) at (with_loans loans (get_or (take used rows) at blank))
-  loans_past le = sym (set_past (take used rows) at _ (omega (arith, length-take-le used rows few)))
 
   loans_sum : at < used → (f : Row → ℕ) → f (with_loans loans (get_or rows at blank)) ≡ f (get_or rows at blank) → sum_by f (take used lent) ≡ sum_by f (take used rows)
   loans_sum lt f e =
@@ -117,17 +100,17 @@ module _ (rows after : List Row) (used at : ℕ) (few : used ≤ length rows) (l
       (cases_lt i at))
 
 -- rows get their new counts
-module _ (rows after : List Row) (cs : List Count) (used : ℕ) (few : used ≤ length rows) (is : take used after ≡ recounted (take used rows) cs) where
-  pub counted_samples : samples_in (take used after) ≡ samples_in (take used rows)
-  counted_samples = rw is (samples_kept (take used rows) cs)
+module _ (rows after : List Row) (cs : List Count) (used : ℕ) (few : used ≤ length rows) (all : used ≤ length cs) (is : after ≡ recounted rows (take used cs)) where
+  pub counted_rows : take used after ≡ recounted (take used rows) cs
+  counted_rows = rw is (recounted_front rows cs used all)
 
-  pub counted_pairs : used ≤ length cs → pairs_in (take used after) ≡ pairs_of_counts (take used cs)
-  counted_pairs le =
+  pub counted_samples : samples_in (take used after) ≡ samples_in (take used rows)
+  counted_samples = rw counted_rows (samples_kept (take used rows) cs)
+
+  pub counted_pairs : pairs_in (take used after) ≡ pairs_of_counts (take used cs)
+  counted_pairs =
       let n : length (take used rows) ≡ used = length-take-le used rows few in
-      rw is (pairs_new (take used rows) cs (omega arith) ∙ ap (λ (k : ℕ). pairs_of_counts (take k cs)) n)
+      rw counted_rows (pairs_new (take used rows) cs (omega arith) ∙ ap (λ (k : ℕ). pairs_of_counts (take k cs)) n)
 
   pub counted_short : Short rows used → Short after used
-  counted_short h i li =
-      let g : get_or (take used after) i blank ≡ get_or after i blank = get_or-take used after i blank li in
-      let k : get_or (take used rows) i blank ≡ get_or rows i blank = get_or-take used rows i blank li in
-      rw (← g, is, length_kept (take used rows) cs i, k) (h i li)
+  counted_short h i li = rw (is, length_kept rows (take used cs) i) (h i li)

@@ -1,15 +1,21 @@
 -- What the catalogue's calls answer and leave. Assumes nothing.
-use Rattle.std.specs.Prelude.{◌≡◌, ℕ, suc, ◌+◌, cond, ◌||◌, List, [], ◌∷◌, ◌++◌, length, take, Ok, Err, Result, ◌==◌, nat_le, nat_lt}
+use Rattle.std.specs.Prelude.{◌≡◌, ℕ, suc, ◌+◌, ◌<◌, cond, ◌||◌, List, [], ◌∷◌, ◌++◌, length, take, Some, None, Ok, Err, Result, ◌==◌, nat_le, nat_lt, slice_index_or}
 use Rattle.catalog.specs.declared.row.Row.{Row}
 use Rattle.catalog.specs.declared.row.Count.{Count}
 use Rattle.catalog.specs.declared.catalog.Catalog.{Catalog}
 use Rattle.catalog.specs.declared.refusal.Refusal.{Refusal}
-use Rattle.catalog.specs.declared.refusal.Refusal.TheVariants.{BadMemory, OtherMemory, TooManyTraces, NumbersSpent, StoreFull, ListFull}
-use Rattle.catalog.specs.Rows.{samples_in, pairs_in, recounted, pairs_of_counts}
+use Rattle.catalog.specs.declared.refusal.Refusal.TheVariants.{BadMemory, OtherMemory, TooManyTraces, NumbersSpent, StoreFull, ListFull, NoTrace}
+use Rattle.catalog.specs.Rows.{blank, found_at, samples_in, pairs_in, recounted, pairs_of_counts}
 
 -- the rows in use
 abbrev pub standing : Catalog → List Row
 standing c = take c.used c.rows
+
+-- the row that has a number, with its place; or there is none
+abbrev pub RowUnder : Catalog → ℕ → Result (ℕ × Row) Refusal → Type 0
+RowUnder c n (Ok found) =
+    (Some found.0 ≡ found_at n (standing c)) × (found.0 < length (standing c)) × (found.1 ≡ slice_index_or (standing c) found.0 blank)
+RowUnder c n (Err e) = (None ≡ found_at n (standing c)) × (e ≡ NoTrace)
 
 -- lengths and the last number given are as they were
 pub record SameSizes (c c' : Catalog) : Type 0 where

@@ -8,7 +8,8 @@ use crate::row::Row;
 pub const MOST_TRACES: usize = 256;
 
 /// The standing traces, by rising accession number, and the lengths of the memory that holds their samples and their
-/// matches. What they take of it never exceeds it.
+/// matches. What they take of it never exceeds it. The rows are a table of fixed size with a count beside it, as a
+/// collection takes no memory from a heap.
 #[derive(Clone, Copy)]
 pub struct Catalog {
     /// How many samples the store has room for.

@@ -10,16 +10,15 @@ pub fn close_gap<T: Copy>(items: &mut [T], at: usize, len: usize, used: usize)
     if used > items.len() || at > used || len > used - at {
         return;
     }
-    for k in 0..used - at - len {
-        items[at + k] = items[at + len + k];
-    }
+    items.copy_within(at + len..used, at);
 }
 
 /// Writes one value over all items.
 pub fn blank_out<T: Copy>(items: &mut [T], value: T)
     ensures { items.new ≡ replicate (length items.old) value }
 {
-    for i in 0..items.len() {
-        items[i] = value;
+    // No `fill`: it asks that a clone cannot fail, and `Copy` does not say so.
+    for item in items.iter_mut() {
+        *item = value;
     }
 }

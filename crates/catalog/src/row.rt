@@ -29,15 +29,15 @@ impl Row {
     };
 }
 
-/// What a search finds in one trace.
-#[derive(Clone, Copy, PartialEq, Debug)]
+/// What a search finds in one trace, in the 32 bits that a row has for it.
+#[derive(Clone, Copy, Default, PartialEq, Debug)]
 pub struct Count {
     pub pairs: u32,
     pub places: u32,
 }
 
 /// What some rows add up to.
-#[derive(Clone, Copy, PartialEq, Debug)]
+#[derive(Clone, Copy, Default, PartialEq, Debug)]
 pub struct Totals {
     pub samples: usize,
     pub pairs: usize,

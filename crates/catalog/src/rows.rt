@@ -2,19 +2,18 @@
 ghost use Rattle.std.specs.Prelude.{◌≡◌, ℕ, suc, ◌+◌, ◌*◌, ◌<◌, ◌≤◌, List, [], ◌∷◌, ◌++◌, length, take, Some, None, Ok, Err, slice_index_or, slice_set};
 ghost use Rattle.std.specs.List.{remove};
 ghost use Rattle.catalog.specs.Rows.{blank, found_at, totals_of, with_loans, recounted, pairs_of_counts};
-ghost use Rattle.catalog.specs.Catalogs.{standing, SameSizes, sized, Sized, admitted, Admitted, Recounted};
+ghost use Rattle.catalog.specs.Catalogs.{standing, RowUnder, SameSizes, sized, Sized, admitted, Admitted, Recounted};
 
 use crate::catalog::{Catalog, MOST_TRACES};
 use crate::gap::close_gap;
 use crate::refusal::Refusal;
 use crate::row::{Count, Row, Totals};
+use trace::file::MOST_SAMPLES;
 
 /// The longest store of samples.
 const LONGEST_STORE: usize = 65_535;
 /// The longest list of matches.
 const LONGEST_LIST: usize = 16_384;
-/// The most samples of a trace.
-const LONGEST_TRACE: u16 = 4_096;
 /// The last accession number.
 const LAST_NUMBER: u32 = 65_535;
 
@@ -39,6 +38,7 @@ impl Catalog {
         if store == 0 || store > LONGEST_STORE || list == 0 || list > LONGEST_LIST {
             return Err(Refusal::BadMemory);
         }
+        // Written out again: a struct with ghost fields takes no `..`.
         Ok(Catalog {
             store,
             list,
@@ -48,17 +48,27 @@ impl Catalog {
         })
     }
 
+    /// The rows in use.
+    pub fn standing(&self) -> &[Row]
+        ensures { result.now ≡ standing self.now }
+    {
+        &self.rows[..self.used]
+    }
+
     /// Which row has a number.
     pub fn find(&self, number: u32) -> Option<usize>
         ensures is { result ≡ found_at number (standing self.now) }
         ensures inside { elim result [ Some i ↦ i < self.now.used | None ↦ Unit {0} ] }
     {
-        for i in 0..self.used {
-            if self.rows[i].number == number {
-                return Some(i);
-            }
-        }
-        None
+        self.standing().iter().position(|row| row.number == number)
+    }
+
+    /// The row that has a number, behind its place.
+    pub fn row(&self, number: u32) -> Result<(usize, Row), Refusal>
+        ensures { RowUnder self.now number result }
+    {
+        let at = self.find(number).ok_or(Refusal::NoTrace)?;
+        Ok((at, self.rows[at]))
     }
 
     /// What the first n rows add up to; all of them, where there are fewer.
@@ -66,18 +76,21 @@ impl Catalog {
         ensures is { result ≡ totals_of (take n (standing self.now)) }
         ensures fits { (result.samples ≤ self.now.store) × (result.pairs ≤ self.now.list) }
     {
-        let mut totals = Totals {
-            samples: 0,
-            pairs: 0,
-            places: 0,
-        };
-        for i in 0..n.min(self.used) {
-            let row = self.rows[i];
+        let mut totals = Totals::default();
+        for row in &self.rows[..n.min(self.used)] {
             totals.samples += row.length as usize;
             totals.pairs += row.pairs as usize;
             totals.places += row.places as usize;
         }
         totals
+    }
+
+    /// What all rows add up to.
+    pub fn all_totals(&self) -> Totals
+        ensures is { result ≡ totals_of (standing self.now) }
+        ensures fits { (result.samples ≤ self.now.store) × (result.pairs ≤ self.now.list) }
+    {
+        self.totals(self.used)
     }
 
     /// Counts this many loans in a row; where there is no such row, nothing changes.
@@ -86,8 +99,7 @@ impl Catalog {
         ensures same { SameSizes self.old self.new }
     {
         if at < self.used {
-            let row = self.rows[at];
-            self.rows[at] = Row { loans, ..row };
+            self.rows[at].loans = loans;
         }
     }
 
@@ -95,7 +107,7 @@ impl Catalog {
     pub fn push(&mut self, machine: u16, length: u16, count: Count) -> Result<u32, Refusal>
         ensures { Admitted self.old machine length count self.new result }
     {
-        if length > LONGEST_TRACE {
+        if length as usize > MOST_SAMPLES {
             return Err(Refusal::OtherMemory);
         }
         if self.used == MOST_TRACES {
@@ -104,7 +116,7 @@ impl Catalog {
         if self.given >= LAST_NUMBER {
             return Err(Refusal::NumbersSpent);
         }
-        let totals = self.totals(self.used);
+        let totals = self.all_totals();
         if totals.samples + length as usize > self.store {
             return Err(Refusal::StoreFull);
         }
@@ -145,39 +157,34 @@ impl Catalog {
         if counts.len() < used {
             return Err(Refusal::OtherMemory);
         }
-        if pairs_counted(counts, used) > self.list {
+        if pairs_counted(&counts[..used]) > self.list {
             return Err(Refusal::ListFull);
         }
-        self.rows = counted_rows(self.rows, counts, used);
+        give_counts(&mut self.rows, &counts[..used]);
         Ok(())
     }
 }
 
-/// The pairs of the first n counts.
-fn pairs_counted(counts: &[Count], n: usize) -> usize
-    requires { (n ≤ length counts.now) × (n ≤ 256) }
-    ensures { result ≡ pairs_of_counts (take n counts.now) }
+/// The pairs of some counts, no more of them than there are rows.
+fn pairs_counted(counts: &[Count]) -> usize
+    requires { length counts.now ≤ 256 }
+    ensures { result ≡ pairs_of_counts counts.now }
 {
-    let mut pairs = 0;
-    for i in 0..n {
-        pairs += counts[i].pairs as usize;
-    }
-    pairs
+    counts.iter().map(|count| count.pairs as usize).sum()
 }
 
-/// The rows with their new counts, the first n of them.
-fn counted_rows(mut rows: [Row; MOST_TRACES], counts: &[Count], n: usize) -> [Row; MOST_TRACES]
-    requires { (n ≤ length counts.now) × (n ≤ 256) × (length rows ≡ 256) }
-    ensures full { length result ≡ 256 }
-    ensures counted { take n result ≡ recounted (take n rows) counts.now }
+/// Gives the first rows their new counts.
+fn give_counts(rows: &mut [Row], counts: &[Count])
+    requires { length counts.now ≤ length rows.old }
+    ensures { rows.new ≡ recounted rows.old counts.now }
 {
-    for i in 0..n {
-        let row = rows[i];
-        rows[i] = Row {
-            pairs: counts[i].pairs,
-            places: counts[i].places,
+    // By index: what a `zip` with `iter_mut` writes is not known after its loop.
+    for (at, count) in counts.iter().enumerate() {
+        let row = rows[at];
+        rows[at] = Row {
+            pairs: count.pairs,
+            places: count.places,
             ..row
         };
     }
-    rows
 }

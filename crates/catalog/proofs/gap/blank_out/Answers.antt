@@ -1,9 +1,9 @@
-use Rattle.std.proofs.Common.{arith}
-use Rattle.catalog.proofs.Filling.{fill_step, fill_end}
+use Rattle.std.proofs.Common.{◌≡◌, ◌+◌, arith}
+use Rattle.std.proofs.lemmas.List.Edits.{fill_from_more}
 use Rattle.catalog.proofs.gap.blank_out.Goals as goal
 
-pub loop-i-preserved : goal.loop-i-preserved
-loop-i-preserved g c = fill_step c.args.items.now c.loop-i.items c.loop-i.i c.args.value (omega arith) c.loop-i.invariant
-
-pub returns : goal.returns
-returns g c = fill_end c.args.items.now c.loop-i.items c.loop-i.i c.args.value (omega arith) c.loop-i.invariant
+pub loop-item-preserved : goal.loop-item-preserved
+loop-item-preserved g c =
+    let at : 0 + c.loop-item.item-index ≡ c.loop-item.item-index = omega arith in
+    let more = fill_from_more c.args.items.now 0 c.loop-item.item-index c.args.value (omega arith) in
+    cc
