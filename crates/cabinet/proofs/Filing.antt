@@ -1,5 +1,5 @@
 -- A file read into a buffer that has room for every trace.
-use Rattle.std.proofs.Common.{◌≡◌, ℕ, ◌-◌, ◌≤◌, List, map, length, take, drop, Ok, Err, Result, refl, ap, ◌∙◌, subst, arith}
+use Rattle.std.proofs.Common.{◌≡◌, ℕ, ◌≤◌, List, map, length, take, drop, Ok, Err, Result, refl, ap, ◌∙◌, subst, arith}
 use Rattle.std.proofs.lemmas.List.{length-map, take_at}
 use Rattle.std.proofs.lemmas.Bool.{cond-true, le-leb}
 use Rattle.trace.specs.Files.{Head, Trace, trace_file}
@@ -12,15 +12,15 @@ fault_of : (r : Result Trace Told) (e : Told) → Err e ≡ counts r → r ≡ E
 fault_of (Ok t) e h = let z : ◌≡◌ {A = ℕ} 0 1 = cc in absurd (let y : ⊥ = omega arith in y)
 fault_of (Err x) e h = let d : x ≡ e = cc in ap Err d
 
--- a file that was read, its trace, and the codes at the front of the buffer, as the code takes them
+-- a file that was read, its trace, and the codes at the front of the buffer
 pub record Filed (number : ℕ) (tops file : List ℕ) (code : List ℕ → ℕ) (machine count : ℕ) (out : List ℕ) : Type 0 where
   pub trace : Trace
   pub is : trace_file number tops file ≡ Ok trace
   pub machine_is : machine ≡ trace.machine
   pub count_is : count ≡ length trace.samples
   pub few : length trace.samples ≤ 4096
-  pub codes : take (count - 0) out ≡ map code trace.samples
-  pub size : length (take (count - 0) out) ≡ length trace.samples
+  pub codes : take count out ≡ map code trace.samples
+  pub size : length (take count out) ≡ length trace.samples
 
 module _ (number : ℕ) (tops file : List ℕ) (room : ℕ) (enough : 4096 ≤ room) (means : Meant number tops file (trace_file number tops file)) where
   fits : (r : Result Trace Told) → Meant number tops file r → fitted room r ≡ r
@@ -39,9 +39,8 @@ module _ (number : ℕ) (tops file : List ℕ) (room : ℕ) (enough : 4096 ≤ r
   filed_in code h old out (Ok t) e m is put =
       let c : h.count ≡ length t.samples = cc in
       let a : h.machine ≡ t.machine = cc in
-      let z : h.count - 0 ≡ length t.samples = omega arith in
-      let codes : take (h.count - 0) out ≡ map code t.samples =
-      ap (λ (n : ℕ). take n out) z ∙ ap (take (length t.samples)) put ∙ take_at (map code t.samples) (drop (length t.samples) old) (length t.samples) (length-map t.samples code) in
+      let codes : take h.count out ≡ map code t.samples =
+      ap (λ (n : ℕ). take n out) c ∙ ap (take (length t.samples)) put ∙ take_at (map code t.samples) (drop (length t.samples) old) (length t.samples) (length-map t.samples code) in
       record {
         trace = t;
         is = e;

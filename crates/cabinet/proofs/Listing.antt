@@ -1,16 +1,14 @@
 -- The matches of all standing traces, counted and listed trace by trace.
-use Rattle.std.proofs.Common.{◌≡◌, ℕ, ◌+◌, ◌-◌, ◌<◌, ◌≤◌, Bool, List, [], ◌∷◌, ◌++◌, map, length, get_or, take, drop, set, sym, ap, ◌∙◌, subst, arith}
+use Rattle.std.proofs.Common.{◌≡◌, ℕ, ◌+◌, ◌-◌, ◌<◌, ◌≤◌, List, [], ◌∷◌, ◌++◌, map, length, get_or, take, drop, set, sym, ap, ◌∙◌, arith}
 use borrow.Rule.Slice.PartMut.{put_mid}
 use Rattle.std.specs.List.{flat_map}
 use Rattle.std.proofs.lemmas.List.{length-set, length-drop, length-take-le, take_all, take_more, take_more_set, take-map, get_or-map, map_more, flat_map_more}
 use Rattle.std.proofs.lemmas.List.Sums.{sum_by_more, sum_by-take-le}
 use Rattle.trace.specs.Kinds.{Kind}
 use Rattle.filters.specs.Matching.{Question, pairs}
-use Rattle.filters.specs.Filters.{Rule, Reach, Pattern, StandsFor}
+use Rattle.filters.specs.Filters.{Rule}
 use Rattle.search.specs.declared.matches.Match.{Match}
-use Rattle.search.specs.declared.matches.Found.{Found}
 use Rattle.search.specs.Listing.{match_list, back_in}
-use Rattle.search.specs.Scans.{Scanned}
 use Rattle.search.proofs.Scanning.{list_counted, exact_room}
 use Rattle.catalog.specs.declared.row.Row.{Row}
 use Rattle.catalog.specs.declared.row.Count.{Count}
@@ -18,23 +16,10 @@ use Rattle.catalog.specs.Rows.{blank, samples_in, pairs_in}
 use Rattle.cabinet.specs.Model.{Trace, codes_of, pairs_of}
 use Rattle.cabinet.specs.Words.{no_trace, all_matches, padded}
 use Rattle.cabinet.specs.Shelf.{traces_of, count_of, row_of}
-use Rattle.cabinet.specs.Searching.{count_in, Searched}
+use Rattle.cabinet.specs.Searching.{count_in}
 use Rattle.cabinet.proofs.Shelving.{length_traces, trace_at}
 use Rattle.cabinet.proofs.Padding.{padded_more}
 use Rattle.cabinet.proofs.Bounding.{rows_counted}
-
--- a scan through a filter that stands for the question, on the codes that were loaded
-pub searched : (rule : Rule) (reach : Reach) (p : Pattern) (agree : ℕ → ℕ → Bool) (q a : Question) (t' t : List ℕ) (number : ℕ) (before behind : List Match) (f : Found) →
-    q ≡ a → t' ≡ t → StandsFor rule reach p a → (StandsFor rule reach p q → Scanned rule reach agree q t' number before behind f) →
-    Searched agree rule a t number before behind (record { pairs = f.pairs; places = f.places })
-searched rule reach p agree q a t' t number before behind f eq et st h =
-    let s : Scanned rule reach agree a t number before behind f =
-    subst (λ (z : List ℕ). Scanned rule reach agree a z number before behind f) et
-    (subst (λ (z : Question). StandsFor rule reach p z → Scanned rule reach agree z t' number before behind f) eq h st) in
-    record {
-      counted = ap (λ (n : ℕ). record { pairs = n; places = f.places }) s.pairs ∙ ap (λ (n : ℕ). record { pairs = pairs agree a t; places = n }) s.places;
-      listed = s.listed;
-    }
 
 module _ {S : Type 0} (K : Kind S) (a : Question) (rs : List Row) (store : List S) where
   -- the codes of a row's part of the store

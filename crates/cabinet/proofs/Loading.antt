@@ -1,5 +1,5 @@
 -- The codes of samples, written to the front of a buffer.
-use Rattle.std.proofs.Common.{◌≡◌, ℕ, ◌+◌, ◌-◌, ◌<◌, ◌≤◌, List, [], ◌∷◌, ◌++◌, map, length, get_or, take, drop, set, sym, ap, ◌∙◌, subst, arith}
+use Rattle.std.proofs.Common.{◌≡◌, ℕ, ◌+◌, ◌<◌, ◌≤◌, List, [], ◌∷◌, ◌++◌, map, length, get_or, take, drop, set, sym, ap, ◌∙◌, subst, arith}
 use Rattle.std.proofs.lemmas.List.{length-map, length-take-le, take_more, drop_more, set_at, map_push, append_assoc, take_all, take_at}
 
 module _ {S : Type 0} (fields : S → List ℕ) (code : List ℕ → ℕ) where
@@ -27,9 +27,8 @@ module _ {S : Type 0} (fields : S → List ℕ) (code : List ℕ → ℕ) where
       subst (λ (z : ℕ). cs ≡ map code (map fields (take i xs)) ++ drop z before) end e
       ∙ ap (λ (ys : List S). map code (map fields ys) ++ drop (length xs) before) (take_all i xs (omega arith))
 
-  -- the front of the buffer, as the code takes it, is then the codes
-  pub loaded : (xs : List S) (before cs : List ℕ) → cs ≡ map code (map fields xs) ++ drop (length xs) before → take (length xs - 0) cs ≡ map code (map fields xs)
+  -- the front of the buffer is then the codes
+  pub loaded : (xs : List S) (before cs : List ℕ) → cs ≡ map code (map fields xs) ++ drop (length xs) before → take (length xs) cs ≡ map code (map fields xs)
   loaded xs before cs e =
-      let n : length xs - 0 ≡ length xs = omega arith in
-      ap (λ (z : ℕ). take z cs) n ∙ ap (take (length xs)) e
+      ap (take (length xs)) e
       ∙ take_at (map code (map fields xs)) (drop (length xs) before) (length xs) (length-map (map fields xs) code ∙ length-map xs fields)

@@ -3,17 +3,18 @@ use Rattle.std.proofs.Common.{◌≡◌, ℕ, List, ◌∷◌, IsErrAnd, Err, Re
 use Rattle.std.proofs.lemmas.Result.{err_from_is_err_and}
 use Rattle.trace.specs.Kinds.{Kind}
 use Rattle.trace.specs.Refusals.{answer}
+use Rattle.filters.specs.declared.filter.Filter.{Ghosts}
 use Rattle.filters.specs.Filters.{Rule, Reach, Pattern}
 use Rattle.search.specs.declared.matches.Match.{Match}
 use Rattle.catalog.specs.declared.refusal.Refusal.{Refusal}
 use Rattle.catalog.specs.Refusals.{told}
 use Rattle.cabinet.specs.declared.collection.Collection.{Collection}
 use Rattle.cabinet.specs.Model.{Opening, Call, refused, outcome, after}
-use Rattle.cabinet.specs.Promise.{After, Answers, RefusedLeaves, Taken}
+use Rattle.cabinet.specs.Promise.{After, Answers}
 use Rattle.cabinet.proofs.Steps.{refused_kept}
 
 -- a refusal that comes out of a call below is the call's own
-pub refused_by : {S F A : Type 0} {K : Kind S} {rule : Rule} {reach : Reach} {means : F → Pattern} {o : Opening} {h : List Call} {c : Collection S F} {store : List S} {list : List Match} → After K rule reach means o h c store list →
+pub refused_by : {S F A : Type 0} {gs : Ghosts F} {K : Kind S} {rule : Rule} {reach : Reach} {means : F → Pattern} {o : Opening} {h : List Call} {c : Collection S F gs} {store : List S} {list : List Match} → After K rule reach means o h c store list →
     (f : A → ℕ) (r : Result A Refusal) (e : Refusal) → r ≡ Err e → (call : Call) → outcome K o (after K o h) call ≡ refused (told e) →
     After K rule reach means o (call ∷ h) c store list × Answers (answer f told r) (outcome K o (after K o h) call)
 refused_by {K = K} {o = o} {h = h} w f r e q call is =
@@ -26,9 +27,6 @@ exit_is r e h =
     let v = err_from_is_err_and r h in
     v.1 ∙ ap Err v.2
 
-pub leaves_by : {A : Type 0} (r : Result A Refusal) (e : Refusal) (X : Type 0) → r ≡ Err e → X → RefusedLeaves r X
-leaves_by r e X q x = subst (λ (z : Result _ Refusal). RefusedLeaves z X) (sym q) x
-
--- what was refused was not taken
-pub taken_not : {A : Type 0} (r : Result A Refusal) (e : Refusal) → r ≡ Err e → Taken r → ⊥
-taken_not r e q t = subst (λ (z : Result _ Refusal). Taken z) q t
+-- and what it is known to be
+pub exit_as : {A E : Type 0} (r : Result A E) (e f : E) → IsErrAnd r (λ (y : E). y ≡ e) → e ≡ f → r ≡ Err f
+exit_as r e f h q = exit_is r e h ∙ ap Err q

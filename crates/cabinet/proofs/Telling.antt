@@ -2,6 +2,7 @@
 use Rattle.std.proofs.Common.{◌≡◌, ℕ, suc, ◌+◌, ◌-◌, ◌*◌, ◌<◌, ◌≤◌, true, List, map, length, get_or, take, drop, replicate, Some, sum_by, sym, refl, ap, ◌∙◌, subst, arith}
 use Rattle.std.proofs.lemmas.List.{get_or-map, take_at}
 use Rattle.trace.specs.Kinds.{Kind}
+use Rattle.filters.specs.declared.filter.Filter.{Ghosts}
 use Rattle.filters.specs.Filters.{Rule, Reach, Pattern, places}
 use Rattle.search.specs.declared.matches.Match.{Match}
 use Rattle.search.specs.Words as one
@@ -21,7 +22,7 @@ use Rattle.cabinet.proofs.Shelving.{trace_at, under_found, before_found}
 use Rattle.cabinet.proofs.Rising.{numbered}
 use Rattle.cabinet.proofs.Wording.{all_whole}
 use Rattle.cabinet.proofs.Padding.{padded_none, padded_front}
-use Rattle.cabinet.proofs.Standing.{used_standing, row_standing, all_totals}
+use Rattle.cabinet.proofs.Standing.{used_standing}
 use Rattle.cabinet.proofs.Holding.{traces_told, count_told, samples_told, pairs_told, places_told, matches_told, samples_fit}
 use Rattle.cabinet.proofs.Finding.{found_some, is_standing}
 
@@ -34,19 +35,18 @@ same_report : (a a' b b' c c' d d' e e' : ℕ) → a ≡ a' → b ≡ b' → c �
     ◌≡◌ {A = Report} (record { traces = a; samples = b; pairs = c; places = d; reach = e }) (record { traces = a'; samples = b'; pairs = c'; places = d'; reach = e' })
 same_report a a' b b' c c' d d' e e' p q r s t = cc
 
-pub totals_report : (c : Catalog) (t : Totals) → t ≡ row.totals_of (take c.used (standing c)) → (r reach : ℕ) → r ≡ reach →
+pub totals_report : (c : Catalog) (t : Totals) → t ≡ row.totals_of (standing c) → (r reach : ℕ) → r ≡ reach →
     record { traces = c.used; samples = t.samples; pairs = t.pairs; places = t.places; reach = r } ≡ report_in c reach
-totals_report c t e r reach s =
-    let a = all_totals c t e in
+totals_report c t a r reach s =
     same_report c.used c.used t.samples (row.samples_in (standing c)) t.pairs (row.pairs_in (standing c)) t.places (row.places_in (standing c)) r reach
     refl (ap (λ (x : Totals). x.samples) a) (ap (λ (x : Totals). x.pairs) a) (ap (λ (x : Totals). x.places) a) s
 
-module _ {S F : Type 0} {K : Kind S} {rule : Rule} {reach : Reach} {means : F → Pattern} {o : Opening} {s : State} {c : Collection S F} {store : List S} {list : List Match} (w : Holds K rule reach means o s c store list) where
+module _ {S F : Type 0} {gs : Ghosts F} {K : Kind S} {rule : Rule} {reach : Reach} {means : F → Pattern} {o : Opening} {s : State} {c : Collection S F gs} {store : List S} {list : List Match} (w : Holds K rule reach means o s c store list) where
   -- all of them added up
-  pub report_told : report_in c.catalog (means c.filter).span ≡ report_of K rule reach s
+  pub report_told : report_in c.catalog (means c.posed.filter).span ≡ report_of K rule reach s
   report_told =
       same_report c.catalog.used (length s.traces) (row.samples_in (standing c.catalog)) (samples_of s.traces) (row.pairs_in (standing c.catalog)) (pairs_of K s.asked s.traces)
-      (row.places_in (standing c.catalog)) (sum_by (λ t. places rule s.asked (codes_of K t)) s.traces) (means c.filter).span (reach s.asked.m s.asked.k)
+      (row.places_in (standing c.catalog)) (sum_by (λ t. places rule s.asked (codes_of K t)) s.traces) (means c.posed.filter).span (reach s.asked.m s.asked.k)
       (sym (used_standing c.catalog) ∙ count_told w) (samples_told w) (pairs_told w) (places_told w) w.filter.span
 
   -- the matches are at the front of the list
@@ -98,15 +98,15 @@ module _ {S F : Type 0} {K : Kind S} {rule : Rule} {reach : Reach} {means : F �
     length_told = ap (λ (r : Row). r.length) row_told
 
     -- what is cut out of the store between its place and its end
-    pub read_told : at < c.catalog.used → (t : Totals) → t ≡ row.totals_of (take at (standing c.catalog)) →
+    pub read_told : (r : Row) → r ≡ get_or (standing c.catalog) at row.blank → (t : Totals) → t ≡ row.totals_of (take at (standing c.catalog)) →
         (stands n s.traces ≡ true) × (t.samples ≡ samples_before n s.traces) ×
-        (map K.fields (take (t.samples + (get_or c.catalog.rows at row.blank).length - t.samples) (drop t.samples store)) ≡ (trace_under n s.traces).samples) ×
-        (take (t.samples + (get_or c.catalog.rows at row.blank).length - t.samples) (drop t.samples store) ≡ take (length (trace_under n s.traces).samples) (drop t.samples store))
-    read_told l t is =
+        (map K.fields (take (t.samples + r.length - t.samples) (drop t.samples store)) ≡ (trace_under n s.traces).samples) ×
+        (take (t.samples + r.length - t.samples) (drop t.samples store) ≡ take (length (trace_under n s.traces).samples) (drop t.samples store))
+    read_told r own t is =
         let place : ℕ = t.samples in
-        let len : ℕ = (get_or c.catalog.rows at row.blank).length in
+        let len : ℕ = r.length in
         let p : place ≡ row.samples_in (take at rs) = ap (λ (x : Totals). x.samples) is in
-        let q : place + len - place ≡ (get_or rs at row.blank).length = omega (arith, ap (λ (r : Row). r.length) (row_standing c.catalog at l)) in (
+        let q : place + len - place ≡ (get_or rs at row.blank).length = omega (arith, ap (λ (x : Row). x.length) own) in (
           is_standing w n at e,
           p ∙ place_told,
           ap (λ (z : ℕ). map K.fields (take z (drop place store))) q ∙ ap (λ (z : ℕ). map K.fields (take (get_or rs at row.blank).length (drop z store))) p ∙ samples_told_at,
@@ -114,15 +114,15 @@ module _ {S F : Type 0} {K : Kind S} {rule : Rule} {reach : Reach} {means : F �
         )
 
 -- the live front of the list is whole
-pub listed_told : {S F : Type 0} {K : Kind S} {rule : Rule} {reach : Reach} {means : F → Pattern} {o : Opening} {h : List Call} {c : Collection S F} {store : List S} {list : List Match} → After K rule reach means o h c store list →
+pub listed_told : {S F : Type 0} {gs : Ghosts F} {K : Kind S} {rule : Rule} {reach : Reach} {means : F → Pattern} {o : Opening} {h : List Call} {c : Collection S F gs} {store : List S} {list : List Match} → After K rule reach means o h c store list →
     (report : Report) →
-    report ≡ report_in c.catalog (means c.filter).span →
-    Listed K rule reach (after K o h) (take (report.pairs - 0) list) report
+    report ≡ report_in c.catalog (means c.posed.filter).span →
+    Listed K rule reach (after K o h) (take report.pairs list) report
 listed_told {K = K} {o = o} {h = h} {c = c} {list = list} w report r =
     let s : State = after K o h in
     let l : List Match = all_matches K s.asked s.traces in
-    let z : report.pairs - 0 ≡ row.pairs_in (standing c.catalog) = omega (arith, ap (λ (x : Report). x.pairs) r) in
-    let is : take (report.pairs - 0) list ≡ l = ap (λ (n : ℕ). take n list) z ∙ front_told w.holds in
+    let z : report.pairs ≡ row.pairs_in (standing c.catalog) = ap (λ (x : Report). x.pairs) r in
+    let is : take report.pairs list ≡ l = ap (λ (n : ℕ). take n list) z ∙ front_told w.holds in
     record {
       is = is;
       whole = subst (λ (x : List Match). Whole K s.asked s.traces x (length x)) (sym is)

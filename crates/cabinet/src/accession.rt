@@ -9,7 +9,6 @@ ghost use Rattle.cabinet.specs.Calls.{lengths, WrongRefused};
 ghost use Rattle.cabinet.specs.Searching.{Stored-at};
 
 use crate::collection::Collection;
-use crate::searching::{count_new, list_new};
 use catalog::refusal::Refusal;
 use catalog::row::Totals;
 use filters::filter::Filter;
@@ -28,27 +27,20 @@ impl<S: Sample, F: Filter> Collection<S, F> {
         codes: &mut [u16],
         marks: &mut [u8],
     ) -> Result<u32, Refusal>
-        ensures kept { Kept S.Sample.kind F.Filter.rule F.Filter.reaches F.Filter.stands self.old store.old list.old (accession (lengths store.old list.old codes.old marks.old) file.now) (answer (λ n. n) told result) self.new store.new list.new }
+        ensures kept { Kept S.kind F.rule F.reaches F.stands self.old store.old list.old (accession (lengths store.old list.old codes.old marks.old) file.now) (answer (λ n. n) told result) self.new store.new list.new }
         ensures same { RefusedLeaves result ((self.new ≡ self.old) × (store.new ≡ store.old) × (list.new ≡ list.old)) }
         ensures memory { WrongRefused self.old (lengths store.old list.old codes.old marks.old) result ((codes.new ≡ codes.old) × (marks.new ≡ marks.old)) }
     {
-        if self.wrong_memory(store.len(), list.len(), codes.len(), marks.len()) {
-            return Err(Refusal::OtherMemory);
-        }
+        self.check_memory(store, list, codes, marks)?;
         let header = read_codes::<S>(file, codes)?;
-        let trace = &codes[0..header.count as usize];
-        let count = count_new::<S, F>(&self.filter, &self.question, trace, marks)?;
-        let Totals { samples, pairs, .. } = self.catalog.totals(self.catalog.used);
+        let trace = &codes[..header.count as usize];
+        // Only counted: no match is written, so the number is not asked for yet.
+        let count = self.posed.search::<S>(trace, 0, marks, &mut []);
+        let Totals { samples, pairs, .. } = self.catalog.all_totals();
         let number = self.catalog.push(header.machine, header.count, count)?;
         let listed = pairs + count.pairs as usize;
-        list_new::<S, F>(
-            &self.filter,
-            &self.question,
-            trace,
-            number,
-            marks,
-            &mut list[pairs..listed],
-        );
+        self.posed
+            .search::<S>(trace, number, marks, &mut list[pairs..listed]);
         store_trace::<S>(file, store, samples, header.count as usize);
         Ok(number)
     }
@@ -58,7 +50,7 @@ impl<S: Sample, F: Filter> Collection<S, F> {
 /// so this is not refused.
 fn store_trace<S: Sample>(file: &[u8], store: &mut [S], at: usize, count: usize)
     requires { at + count ≤ length store.old }
-    ensures { (t : Trace) → read S.Sample.kind file.now ≡ Ok t → length t.samples ≡ count → Stored-at S.Sample.kind.fields at t.samples store.old store.new }
+    ensures { (t : Trace) → read S.kind file.now ≡ Ok t → length t.samples ≡ count → Stored-at S.kind.fields at t.samples store.old store.new }
 {
     let end = at + count;
     let _ = read_samples::<S>(file, &mut store[at..end]);

@@ -7,9 +7,11 @@ ghost use Rattle.cabinet.specs.Promise.{Kept, ListedAgain, RefusedLeaves};
 ghost use Rattle.cabinet.specs.Calls.{lengths, WrongRefused};
 
 use crate::collection::Collection;
+use crate::posed::Posed;
 use crate::searching::{count_traces, list_traces};
 use catalog::refusal::Refusal;
 use filters::filter::Filter;
+use filters::question::Question;
 use search::matches::Match;
 use trace::file::read_codes;
 use trace::sample::Sample;
@@ -27,32 +29,23 @@ impl<S: Sample, F: Filter> Collection<S, F> {
         codes: &mut [u16],
         marks: &mut [u8],
     ) -> Result<(), Refusal>
-        ensures kept { Kept S.Sample.kind F.Filter.rule F.Filter.reaches F.Filter.stands self.old store.now list.old (ask (lengths store.now list.old codes.old marks.old) file.now m k) (answer (λ _. 0) told result) self.new store.now list.new }
-        ensures again { ListedAgain S.Sample.kind F.Filter.rule F.Filter.reaches F.Filter.stands self.old store.now list.old file.now m k result self.new list.new }
+        ensures kept { Kept S.kind F.rule F.reaches F.stands self.old store.now list.old (ask (lengths store.now list.old codes.old marks.old) file.now m k) (answer (λ _. 0) told result) self.new store.now list.new }
+        ensures again { ListedAgain S.kind F.rule F.reaches F.stands self.old store.now list.old file.now m k result self.new list.new }
         ensures same { RefusedLeaves result ((self.new ≡ self.old) × (list.new ≡ list.old)) }
         ensures memory { WrongRefused self.old (lengths store.now list.old codes.old marks.old) result ((codes.new ≡ codes.old) × (marks.new ≡ marks.old)) }
     {
-        if self.wrong_memory(store.len(), list.len(), codes.len(), marks.len()) {
-            return Err(Refusal::OtherMemory);
-        }
+        self.check_memory(store, list, codes, marks)?;
         let header = read_codes::<S>(file, codes)?;
-        let mut question = self.question;
-        question.set(&codes[0..header.count as usize], m, k)?;
-        let mut filter = self.filter;
-        filter.set(question.codes(), m, k)?;
-        let counts = count_traces::<S, F>(&self.catalog, &filter, &question, store, codes, marks)?;
+        let question = Question {
+            codes: &codes[..header.count as usize],
+            m,
+            k,
+        };
+        let posed = Posed::new(self.posed.filter, question)?;
+        let counts = count_traces(&self.catalog, &posed, store, codes, marks)?;
         self.catalog.recount(&counts)?;
-        self.question = question;
-        self.filter = filter;
-        list_traces::<S, F>(
-            &self.catalog,
-            &self.filter,
-            &self.question,
-            store,
-            list,
-            codes,
-            marks,
-        );
+        list_traces(&self.catalog, &posed, store, list, codes, marks);
+        self.posed = posed;
         Ok(())
     }
 }

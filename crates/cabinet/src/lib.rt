@@ -9,6 +9,7 @@ pub mod examples;
 pub mod loans;
 mod memory;
 pub mod opening;
+mod posed;
 pub mod reading;
 pub mod report;
 mod searching;

@@ -1,15 +1,15 @@
 //! Opening a collection.
 ghost use Rattle.std.specs.Prelude.{◌≡◌};
-ghost use Rattle.filters.specs.Filters.{StandsFor, none};
+ghost use Rattle.filters.specs.Filters.{none};
 ghost use Rattle.cabinet.specs.Calls.{Opened, Closed};
 
 use crate::collection::Collection;
 use crate::declined::Declined;
+use crate::posed::Posed;
 use catalog::catalog::Catalog;
 use catalog::gap::blank_out;
 use catalog::refusal::Refusal;
 use filters::filter::Filter;
-use filters::held::Held;
 use search::matches::Match;
 use std::marker::PhantomData;
 use trace::sample::Sample;
@@ -17,38 +17,29 @@ use trace::sample::Sample;
 /// The largest mark.
 const LAST_MARK: u32 = 65_535;
 
-/// What stands in the list where there is no match.
-pub(crate) const NO_MATCH: Match = Match {
-    accession: 0,
-    trace: 0,
-    query: 0,
-    mismatches: 0,
-};
-
 impl<S: Sample, F: Filter> Collection<S, F> {
     /// Opens a collection for this store and list, which no question and no trace has yet: the filter is cleared and the
     /// list filled with zeros. Refused for the mark first, then for the lengths; a collection without room is then given
     /// back, and the list stays.
     pub fn open(
-        mut filter: F,
+        filter: F,
         mark: u32,
         store: &[S],
         list: &mut [Match],
     ) -> Result<Collection<S, F>, Declined<Collection<S, F>>>
-        ensures { Opened S.Sample.kind F.Filter.rule F.Filter.reaches F.Filter.stands mark store.now list.old result list.new }
+        ensures { Opened S.kind F.rule F.reaches F.stands mark store.now list.old result list.new }
     {
-        filter.clear();
+        let posed = Posed::none(filter);
         if mark == 0 || mark > LAST_MARK {
-            return Err(Collection::closed(filter, Refusal::BadMark));
+            return Err(Collection::closed(posed, Refusal::BadMark));
         }
         match Catalog::new(store.len(), list.len()) {
-            Err(refusal) => Err(Collection::closed(filter, refusal)),
+            Err(refusal) => Err(Collection::closed(posed, refusal)),
             Ok(catalog) => {
-                blank_out(list, NO_MATCH);
+                blank_out(list, Match::NONE);
                 Ok(Collection {
                     kind: PhantomData,
-                    filter,
-                    question: Held::new(),
+                    posed,
                     mark,
                     catalog,
                 })
@@ -57,16 +48,16 @@ impl<S: Sample, F: Filter> Collection<S, F> {
     }
 
     /// A collection without room, and why there is no other.
-    fn closed(filter: F, refusal: Refusal) -> Declined<Collection<S, F>>
-        requires { StandsFor F.Filter.rule F.Filter.reaches (F.Filter.stands filter) none }
-        ensures { (result.refusal ≡ refusal) × Closed S.Sample.kind F.Filter.rule F.Filter.reaches F.Filter.stands result.back }
+    // Its mark is a number too, 0, and no option: a slip bears its collection's, and none bears 0.
+    fn closed(posed: Posed<F>, refusal: Refusal) -> Declined<Collection<S, F>>
+        requires { posed.question ≡ none }
+        ensures { (result.refusal ≡ refusal) × Closed S.kind F.rule F.reaches F.stands result.back }
     {
         Declined {
             refusal,
             back: Collection {
                 kind: PhantomData,
-                filter,
-                question: Held::new(),
+                posed,
                 mark: 0,
                 catalog: Catalog::closed(),
             },

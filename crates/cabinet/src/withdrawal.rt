@@ -7,7 +7,6 @@ ghost use Rattle.cabinet.specs.Promise.{Kept, RefusedLeaves};
 ghost use Rattle.cabinet.specs.Calls.{lengths, WrongRefused};
 
 use crate::collection::Collection;
-use crate::opening::NO_MATCH;
 use catalog::gap::{blank_out, close_gap};
 use catalog::refusal::Refusal;
 use filters::filter::Filter;
@@ -25,27 +24,22 @@ impl<S: Sample, F: Filter> Collection<S, F> {
         codes: &[u16],
         marks: &[u8],
     ) -> Result<(), Refusal>
-        ensures kept { Kept S.Sample.kind F.Filter.rule F.Filter.reaches F.Filter.stands self.old store.old list.old (withdraw (lengths store.old list.old codes.now marks.now) number) (answer (λ _. 0) told result) self.new store.new list.new }
+        ensures kept { Kept S.kind F.rule F.reaches F.stands self.old store.old list.old (withdraw (lengths store.old list.old codes.now marks.now) number) (answer (λ _. 0) told result) self.new store.new list.new }
         ensures same { RefusedLeaves result ((self.new ≡ self.old) × (store.new ≡ store.old) × (list.new ≡ list.old)) }
         ensures memory { WrongRefused self.old (lengths store.old list.old codes.now marks.now) result (Unit {0}) }
     {
-        if self.wrong_memory(store.len(), list.len(), codes.len(), marks.len()) {
-            return Err(Refusal::OtherMemory);
-        }
-        let Some(at) = self.catalog.find(number) else {
-            return Err(Refusal::NoTrace);
-        };
-        let row = self.catalog.rows[at];
+        self.check_memory(store, list, codes, marks)?;
+        let (at, row) = self.catalog.row(number)?;
         if row.loans > 0 {
             return Err(Refusal::OnLoan);
         }
         let before = self.catalog.totals(at);
-        let all = self.catalog.totals(self.catalog.used);
+        let all = self.catalog.all_totals();
         close_gap(store, before.samples, row.length as usize, all.samples);
         close_gap(list, before.pairs, row.pairs as usize, all.pairs);
         let end = all.pairs;
         let left = end - row.pairs as usize;
-        blank_out(&mut list[left..end], NO_MATCH);
+        blank_out(&mut list[left..end], Match::NONE);
         self.catalog.remove(at);
         Ok(())
     }

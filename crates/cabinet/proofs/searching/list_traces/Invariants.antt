@@ -1,7 +1,5 @@
-use Rattle.filters.specs.Asking.{asked}
-use Rattle.catalog.specs.Catalogs.{standing}
 use Rattle.cabinet.proofs.Listing.{Listing}
 use Rattle.cabinet.proofs.searching.list_traces.Given as goal
 
-abbrev pub invariant-loop-i : goal.invariant-loop-i
-invariant-loop-i g l = Listing g.S.Sample.kind (asked l.held) (standing l.catalog) l.store l.catalog.list l.i l.at l.first l.list
+abbrev pub invariant-loop-row : goal.invariant-loop-row
+invariant-loop-row g l = Listing g.S.Sample.kind l.posed.question l.rows l.store l.catalog.list l.row-index l.at l.first l.list

@@ -2,10 +2,6 @@
 use Rattle.cabinet.proofs.Telling.{listed_told}
 use Rattle.cabinet.proofs.collection.Collection.listing.Goals as goal
 
-pub returns : goal.returns
-returns g c = record {
-  memory = λ other. absurd (other c.if-list-self.false);
-  whole = λ o h store w.
-      listed_told w
-      c.report-report.result c.report-report.ensures.rows;
-}
+pub returns-clause-whole : goal.returns-clause-whole
+returns-clause-whole g c = λ o h store w.
+    listed_told w c.report-report.result c.report-report.ensures.rows

@@ -1,46 +1,19 @@
 -- A slip that comes back counts one loan less.
-use Rattle.std.proofs.Common.{◌≡◌, ℕ, Some, None, sym, refl, ◌∙◌, subst}
-use Rattle.catalog.specs.Rows.{found_at}
-use Rattle.catalog.specs.Catalogs.{standing}
-use Rattle.cabinet.proofs.Lending.{back_other_kept, back_none_kept, back_not_lent_kept, back_kept}
+use Rattle.std.proofs.Common.{refl}
+use Rattle.catalog.specs.Refusals.{told}
+use Rattle.cabinet.specs.Model.{take_back}
+use Rattle.cabinet.proofs.Lending.{back_kept}
+use Rattle.cabinet.proofs.Steps.{refused_kept}
 use Rattle.cabinet.proofs.collection.Collection.take_back.Goals as goal
 
-pub returns-then-mark-self : goal.returns-then-mark-self
-returns-then-mark-self g c = record {
-  kept = λ store list o h w.
-      back_other_kept w
-      c.args.slip.number c.args.slip.mark (λ e. c.if-mark-self.true (c.mark.ensures ∙ e));
-  back = refl;
-  same = refl;
-}
+pub returns-in-Err-clause-kept : goal.returns-in-Err-clause-kept
+returns-in-Err-clause-kept g c = λ store list o h w.
+    refused_kept w (take_back c.args.slip.mark c.args.slip.number) (told c.in-Err.refusal) (c.in-Err.ensures store list o h w)
 
-pub returns-in_default : goal.returns-in_default
-returns-in_default g c = record {
-  kept = λ store list o h w.
-      back_none_kept w
-      c.args.slip.number c.args.slip.mark (sym c.mark.ensures ∙ c.if-mark-self.false)
-      (subst (λ (n : ℕ). None ≡ found_at n (standing c.args.self.now.catalog)) c.number.ensures c.in_default.ensures.is);
-  back = refl;
-  same = refl;
-}
-
-pub returns-then-row-eq0 : goal.returns-then-row-eq0
-returns-then-row-eq0 g c = record {
-  kept = λ store list o h w.
-      back_not_lent_kept w
-      c.args.slip.number c.in-Some.at (subst (λ (n : ℕ). Some c.in-Some.at ≡ found_at n (standing c.args.self.now.catalog)) c.number.ensures c.in-Some.ensures.is) c.in-Some.ensures.inside
-      c.args.slip.mark (sym c.mark.ensures ∙ c.if-mark-self.false) c.if-row-eq0.true;
-  back = refl;
-  same = refl;
-}
-
-pub returns : goal.returns
-returns g c = record {
-  kept = λ store list o h w.
-      back_kept w
-      c.args.slip.number c.in-Some.at (subst (λ (n : ℕ). Some c.in-Some.at ≡ found_at n (standing c.args.self.now.catalog)) c.number.ensures c.in-Some.ensures.is) c.in-Some.ensures.inside
-      g.met.S.Sample.agreeing g.met.F.Filter.inside g.met.F.Filter.necessary _ _ c.set_loans.ensures.rows c.set_loans.ensures.same refl refl refl
-      c.args.slip.mark (sym c.mark.ensures ∙ c.if-mark-self.false) refl c.if-row-eq0.false;
-  back = tt;
-  same = tt;
-}
+pub returns-in-Ok-clause-kept : goal.returns-in-Ok-clause-kept
+returns-in-Ok-clause-kept g c = λ store list o h w.
+    let found = c.in-Ok.ensures.1 in
+    back_kept w
+    c.args.slip.number c.in-Ok.at c.in-Ok.row found.0 found.2
+    g.met.S.Sample.agreeing g.met.F.Filter.inside g.met.F.Filter.necessary _ _ c.set_loans.ensures.rows c.set_loans.ensures.same refl refl
+    c.args.slip.mark c.in-Ok.ensures.0 refl c.in-Ok.ensures.2
