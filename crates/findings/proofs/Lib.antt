@@ -5,4 +5,3 @@ pub mod Parting
 pub mod Playing
 pub mod Telling
 pub mod Worked
-pub mod Writing

@@ -4,10 +4,12 @@ use mathlib.Core.List.{reverse_aux}
 use Rattle.std.proofs.lemmas.Bool.{cond-true, cond-false, lt-ltb, le-ltb}
 use Rattle.trace.specs.Kinds.{pulse}
 use Rattle.cabinet.specs.Model.{State, Call, Outcome, accepted, refused, outcome, kept}
-use Rattle.findings.specs.Framing.{Front, front_file, HoldsFiles}
-use Rattle.findings.specs.Refusals.{and_then}
+use Rattle.console.proofs.Parting.{file_there, file_shorter}
+use Rattle.console.specs.Parts.{Front, front_file}
+use Rattle.console.specs.Refusals.{and_then}
+use Rattle.findings.specs.Framing.{HoldsFiles}
 use Rattle.findings.specs.Sessions.{opening, bringing, asking, standing_after, left_by, answered, one_in, all_in, session_of, session, Parts, Holds, calls, played, Plays}
-use Rattle.findings.proofs.Parting.{file_there, file_shorter, question_there}
+use Rattle.findings.proofs.Parting.{question_there}
 
 and_then_same : {A B : Type 0} (r : Result A ℕ) (f g : A → Result B ℕ) → ((a : A) → f a ≡ g a) → and_then r f ≡ and_then r g
 and_then_same (Ok a) f g same = same a

@@ -1,39 +1,15 @@
 -- The input: m, k, and files behind their lengths. Assumes nothing.
-use Rattle.std.specs.Prelude.{◌≡◌, ℕ, ◌≤◌, cond, List, [], ◌∷◌, ◌++◌, length, take, drop, Ok, Err, Result, nat_le, nat_lt}
-use Rattle.trace.specs.Numbers as trace
+use Rattle.std.specs.Prelude.{◌≡◌, ℕ, ◌≤◌, cond, List, [], ◌∷◌, length, Ok, Err, Result, nat_lt}
 use Rattle.trace.specs.Spelling.{Begins}
+use Rattle.console.specs.Parts.{longest, Front, front_number, front_file, HoldsFile}
+use Rattle.console.specs.Refusals.{and_then}
 use Rattle.findings.specs.declared.frame.Asked as code
-use Rattle.findings.specs.declared.frame.Numeral.{Numeral}
-use Rattle.findings.specs.declared.frame.Part.{Part}
-use Rattle.findings.specs.Refusals.{and_then}
-
--- what stands at the front of some bytes, and the bytes behind it
-pub record Front (A : Type 0) : Type 0 where
-  pub value : A
-  pub rest : List ℕ
 
 -- what the input asks
 pub record Asked : Type 0 where
   pub m : ℕ
   pub k : ℕ
   pub query : List ℕ
-
--- what a number leaves behind it, or why there is none
-abbrev pub front_of : List ℕ → trace.Number → Result (Front ℕ) ℕ
-front_of bytes (trace.found v n) = Ok (record { value = v; rest = drop n bytes })
-front_of bytes (trace.none e) = Err e
-
--- a number as in a trace file
-abbrev pub front_number : List ℕ → Result (Front ℕ) ℕ
-front_number bytes = front_of bytes (trace.number 3 bytes)
-
--- a file of this many bytes; fewer are refused
-abbrev pub sized : Front ℕ → Result (Front (List ℕ)) ℕ
-sized size = cond (nat_le size.value (length size.rest)) (Ok (record { value = take size.value size.rest; rest = drop size.value size.rest })) (Err 4)
-
--- a file behind its length
-abbrev pub front_file : List ℕ → Result (Front (List ℕ)) ℕ
-front_file bytes = and_then (front_number bytes) sized
 
 -- m, k and the query's file are read, and the traces stand behind them
 abbrev pub behind_query : Front ℕ → Front ℕ → Front (List ℕ) → Result (Front Asked) ℕ
@@ -51,31 +27,13 @@ behind_m m = and_then (front_number m.rest) (behind_k m)
 abbrev pub front_question : List ℕ → Result (Front Asked) ℕ
 front_question input = and_then (front_number input) behind_m
 
--- the most bytes that the program takes
-abbrev pub longest : ℕ
-longest = 32768
-
 -- what an input asks, with the bytes of its traces behind it, or the number of the first refusal
 abbrev pub questioned : List ℕ → Result (Front Asked) ℕ
 questioned input = cond (nat_lt longest (length input)) (Err 3) (front_question input)
 
--- a number of the code, as the definitions have it
-abbrev pub numeral : Numeral → Front ℕ
-numeral n = record { value = n.value; rest = n.rest.now }
-
--- a file of the code, as the definitions have it
-abbrev pub part : Part → Front (List ℕ)
-part p = record { value = p.file.now; rest = p.rest.now }
-
 -- a question of the code, as the definitions have it
 abbrev pub asked_in : code.Asked → Front Asked
 asked_in a = record { value = record { m = a.m; k = a.k; query = a.query.now }; rest = a.rest.now }
-
--- the bytes begin with the length of a file, however padded, and the file, and then comes rest
-pub record HoldsFile (bytes file rest : List ℕ) : Type 0 where
-  pub behind : List ℕ
-  pub size : Begins (length file) bytes behind
-  pub is : behind ≡ file ++ rest
 
 -- the bytes are these files, one behind the other, each behind its length, and nothing else
 abbrev pub HoldsFiles : List ℕ → List (List ℕ) → Type 0

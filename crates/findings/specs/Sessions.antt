@@ -3,8 +3,9 @@ use Rattle.std.specs.Prelude.{◌≡◌, ℕ, zero, suc, cond, List, [], ◌∷�
 use Rattle.trace.specs.Kinds.{pulse}
 use Rattle.trace.specs.Told.{number_of}
 use Rattle.cabinet.specs.Model.{Opening, Lengths, State, Call, accession, ask, Outcome, accepted, refused, outcome, after}
-use Rattle.findings.specs.Framing.{Front, Asked, front_file, questioned, HoldsQuestion, HoldsFiles}
-use Rattle.findings.specs.Refusals.{and_then}
+use Rattle.console.specs.Parts.{Front, front_file}
+use Rattle.console.specs.Refusals.{and_then}
+use Rattle.findings.specs.Framing.{Asked, questioned, HoldsQuestion, HoldsFiles}
 
 -- the program's collection: its mark, and the lengths of its store and its list
 abbrev pub opening : Opening

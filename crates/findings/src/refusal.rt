@@ -1,23 +1,24 @@
 //! Why an input is refused.
 ghost use Rattle.std.specs.Prelude.{◌≡◌};
+ghost use Rattle.console.specs.declared.failure.Failure.TheVariants.{Refused};
 ghost use Rattle.findings.specs.Refusals.{refusal_number};
-ghost use Rattle.findings.specs.declared.refusal.Refusal.TheVariants.{Number, Call};
+ghost use Rattle.findings.specs.declared.refusal.Refusal.TheVariants.{Input, Call};
 
 use catalog::refusal::Refusal as CallRefusal;
-use trace::refusal::Cause;
+use console::failure;
+use console::refusal::Refusal as InputRefusal;
 
 /// Why an input was refused.
 #[derive(Clone, Copy)]
 pub enum Refusal {
-    /// The input has more bytes than the program takes.
-    InputTooLong,
-    /// A number outside of the files is not there: m, k, or the length of a file.
-    Number(Cause),
-    /// A length goes past the end of the input.
-    FileCutOff,
+    /// The input cannot be taken apart.
+    Input(InputRefusal),
     /// The collection refused the question or a trace.
     Call(CallRefusal),
 }
+
+/// Why there is no answer.
+pub type Failure = failure::Failure<Refusal>;
 
 impl Refusal {
     /// The number of the refusal.
@@ -25,19 +26,17 @@ impl Refusal {
         ensures { result ≡ refusal_number self }
     {
         match self {
-            Refusal::InputTooLong => 3,
-            Refusal::Number(cause) => cause.number(),
-            Refusal::FileCutOff => 4,
+            Refusal::Input(refusal) => refusal.number(),
             Refusal::Call(refusal) => refusal.number(),
         }
     }
 }
 
-impl From<Cause> for Refusal {
-    ghost from_gives = { λ cause r. r ≡ Number cause };
+impl From<InputRefusal> for Refusal {
+    ghost from_gives = { λ e r. r ≡ Input e };
 
-    fn from(cause: Cause) -> Refusal {
-        Refusal::Number(cause)
+    fn from(refusal: InputRefusal) -> Refusal {
+        Refusal::Input(refusal)
     }
 }
 
@@ -46,5 +45,14 @@ impl From<CallRefusal> for Refusal {
 
     fn from(refusal: CallRefusal) -> Refusal {
         Refusal::Call(refusal)
+    }
+}
+
+// In each program: one for every refusal would meet that for want of memory.
+impl From<Refusal> for Failure {
+    ghost from_gives = { λ e r. r ≡ Refused e };
+
+    fn from(refusal: Refusal) -> Failure {
+        Failure::Refused(refusal)
     }
 }

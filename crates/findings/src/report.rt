@@ -1,12 +1,13 @@
 //! All that is printed of an input.
 ghost use Rattle.std.specs.Prelude.{◌≡◌, [], IfOk, string_bytes};
+ghost use Rattle.console.specs.Filtering.{near_rule, near_reach};
 ghost use Rattle.findings.specs.Examples.{Examples};
-ghost use Rattle.findings.specs.Reports.{Tells, Says, near_rule, near_reach, report_text, session_text};
+ghost use Rattle.findings.specs.Reports.{Tells, Says, report_text, session_text};
 ghost use Rattle.findings.specs.Sessions.{session, Parts, Holds, calls, played, standing_after};
 
-use crate::failure::Failure;
-use crate::lines::refusal_line;
+use crate::refusal::Failure;
 use crate::session::hold;
+use console::table::refusal_line;
 use filters::continuous::Continuous;
 use filters::filter::Filter;
 use filters::gapped::Gapped;
@@ -15,7 +16,7 @@ use std::alloc::{AllocError, Global};
 
 /// What an input's session finds through a filter, told in full: the list is whole.
 fn tell<F: Filter>(heap: Global, filter: F, input: &[u8]) -> Result<String, Failure>
-    ensures { Tells F.Filter.rule F.Filter.reaches result (session input.now) }
+    ensures { Tells F.rule F.reaches result (session input.now) }
 {
     let desk = hold(heap, filter, input)?;
     desk.listing(heap)

@@ -1,42 +1,51 @@
 -- How the count of padded numbers goes through a file. Assumes nothing.
-use Rattle.std.proofs.Common.{◌≡◌, ℕ, ◌+◌, ◌-◌, ◌<◌, ◌≤◌, true, ◌&&◌, eqb, leb, List, [], ◌∷◌, ◌++◌, length, get_or, drop, sym, refl, ap, ◌∙◌, not-suc-le-zero, arith, length-drop}
-use Rattle.std.proofs.lemmas.List.{at_drop_more, drop_more}
-use Rattle.std.proofs.lemmas.Bool.{and_from, and_left, and_right, le-leb, lt-leb, eq-eqb, ne_eqb}
-use Rattle.std.specs.List.{flat_map}
+use Rattle.std.proofs.Common.{◌≡◌, ℕ, ◌+◌, ◌<◌, ◌≤◌, Bool, true, false, cond, ◌&&◌, eqb, leb, List, [], ◌∷◌, ◌++◌, length, take, drop, sym, refl, ap, ◌∙◌, subst, not-suc-le-zero, arith}
+use Rattle.std.proofs.lemmas.Bool.{and_left, and_right, le-leb, lt-leb, ne_eqb}
+use Rattle.std.proofs.lemmas.Iterator.{YieldsList}
+use Rattle.std.proofs.lemmas.Iterator.Splits.{YieldsList-from_shown_while}
+use Rattle.std.specs.List.{flat_map, filter}
+use Rattle.std.specs.Slice.Iter.{windows_rest, windows_size, windows_steps}
 use Rattle.trace.specs.Numbers.{SevenBits, spelled}
-use Rattle.inspect.specs.Paddings.{one_if, pads, padded, last_group, is_padded, padded_numbers, AllGroups, CountsPadded}
+use Rattle.inspect.specs.Paddings.{one_if, pads, pads_pair, padded, last_group, is_padded, padded_numbers, AllGroups, CountsPadded}
 
--- the neighbours at j and behind it
-next_pair : (bs : List ℕ) (j : ℕ) → j + 1 < length bs → padded (drop j bs) ≡ one_if (pads (get_or bs j 0) (get_or bs (j + 1) 0)) + padded (drop (j + 1) bs)
-next_pair bs j h =
-    at_drop_more padded bs j 0 (omega arith) ∙ at_drop_more (λ rest. padded (get_or bs j 0 ∷ rest)) bs (j + 1) 0 h
-    ∙ ap (λ rest. one_if (pads (get_or bs j 0) (get_or bs (j + 1) 0)) + padded rest) (sym (drop_more bs (j + 1) 0 h))
+-- the neighbours, two by two
+abbrev pub neighbours : List ℕ → List (List ℕ)
+neighbours [] = []
+neighbours (a ∷ []) = []
+neighbours (a ∷ b ∷ bs) = (a ∷ b ∷ []) ∷ neighbours (b ∷ bs)
 
--- the same where the loop stands at the second of the two
-pub pair_at : (bs : List ℕ) (i : ℕ) → 1 ≤ i → i < length bs → padded (drop (i - 1) bs) ≡ one_if (pads (get_or bs (i - 1) 0) (get_or bs i 0)) + padded (drop (i + 1 - 1) bs)
-pair_at bs i some h =
-    let on : i - 1 + 1 ≡ i = omega arith in
-    let back : i + 1 - 1 ≡ i = omega arith in
-    next_pair bs (i - 1) (omega arith) ∙ ap (λ n. one_if (pads (get_or bs (i - 1) 0) (get_or bs n 0)) + padded (drop n bs)) on
-    ∙ ap (λ n. one_if (pads (get_or bs (i - 1) 0) (get_or bs i 0)) + padded (drop n bs)) (sym back)
+counted : (b : Bool) (l : List ℕ) (ls : List (List ℕ)) → pads_pair l ≡ b → length (filter pads_pair (l ∷ ls)) ≡ one_if b + length (filter pads_pair ls)
+counted true l ls is = let e = ap (λ b. length (cond b (l ∷ filter pads_pair ls) (filter pads_pair ls))) is in omega (arith, e)
+counted false l ls is = let e = ap (λ b. length (cond b (l ∷ filter pads_pair ls) (filter pads_pair ls))) is in omega (arith, e)
 
-pub pads_here : (a b : ℕ) → 128 ≤ a → b ≡ 0 → one_if (pads a b) ≡ 1
-pads_here a b more none = ap one_if (and_from _ _ (le-leb 128 a more) (eq-eqb b 0 none))
+pub neighbours_padded : (bs : List ℕ) → length (filter pads_pair (neighbours bs)) ≡ padded bs
+neighbours_padded [] = refl
+neighbours_padded (a ∷ []) = refl
+neighbours_padded (a ∷ b ∷ bs) = counted (pads a b) (a ∷ b ∷ []) (neighbours (b ∷ bs)) refl ∙ ap (λ n. one_if (pads a b) + n) (neighbours_padded (b ∷ bs))
 
-pub last_byte : (a b : ℕ) → a < 128 → one_if (pads a b) ≡ 0
+no_more : (bs : List ℕ) → length bs < 2 → length (neighbours bs) ≡ 0
+no_more [] h = refl
+no_more (b ∷ []) h = refl
+no_more (a ∷ b ∷ bs) h = absurd (omega arith)
+
+one_more : (bs x rest : List ℕ) → 2 ≤ length bs → x ≡ take 2 bs → rest ≡ drop 1 bs → neighbours bs ≡ x ∷ neighbours rest
+one_more [] x rest h is on = absurd (omega arith)
+one_more (b ∷ []) x rest h is on = absurd (omega arith)
+one_more (a ∷ b ∷ bs) x rest h is on = sym (λ i. is i ∷ neighbours (on i))
+
+-- windows of two are the neighbours
+pub windows_are : (s : _) (bs : List ℕ) → windows_rest s ≡ bs → windows_size s ≡ 2 → YieldsList windows_steps (λ x. x.now) s (neighbours bs)
+windows_are s bs is two =
+    subst (λ l. YieldsList windows_steps (λ x. x.now) s (neighbours l)) is
+    (YieldsList-from_shown_while windows_steps (λ x. x.now) (λ s. neighbours (windows_rest s)) (λ s. windows_size s ≡ 2)
+    (λ s t size h. no_more (windows_rest s) (omega (arith, size, h.1.0)))
+    (λ s x t size h. (h.0 ∙ size, one_more (windows_rest s) x.now (windows_rest t) (omega (arith, size, h.1.0)) (h.1.1 ∙ ap (λ n. take n (windows_rest s)) size) h.1.2)) s two)
+
+last_byte : (a b : ℕ) → a < 128 → one_if (pads a b) ≡ 0
 last_byte a b end = ap one_if (and_left (leb 128 a) (eqb b 0) (lt-leb 128 a end))
 
-pub group_here : (a b : ℕ) → (b ≡ 0 → ⊥) → one_if (pads a b) ≡ 0
+group_here : (a b : ℕ) → (b ≡ 0 → ⊥) → one_if (pads a b) ≡ 0
 group_here a b some = ap one_if (and_right (leb 128 a) (eqb b 0) (ne_eqb b 0 some))
-
--- one byte has no neighbour
-single : (bs : List ℕ) → length bs ≤ 1 → padded bs ≡ 0
-single [] h = refl
-single (b ∷ []) h = refl
-single (a ∷ b ∷ bs) h = absurd (omega arith)
-
-pub no_pair : (bs : List ℕ) (i : ℕ) → length bs ≤ i → padded (drop (i - 1) bs) ≡ 0
-no_pair bs i h = single (drop (i - 1) bs) (omega (arith, length-drop (i - 1) bs))
 
 -- a byte that says that none follows pads nothing
 behind_last : (g : ℕ) (rest : List ℕ) → g < 128 → padded (g ∷ rest) ≡ padded rest

@@ -1,41 +1,57 @@
 -- How a text grows. Assumes nothing.
-use Rattle.std.proofs.Common.{◌≡◌, ℕ, ◌+◌, ◌-◌, ◌<◌, min, List, [], ◌∷◌, ◌++◌, map, length, get_or, take, drop, codes, decimal, sym, ap, ◌∙◌, ⊎_elim, append_assoc, add-one, arith, length-drop}
-use Rattle.std.proofs.lemmas.List.{take_more, take_all, flat_map_more, map_push, take-map, drop-map}
+use Rattle.std.proofs.Common.{◌≡◌, ℕ, ◌+◌, ◌-◌, ◌*◌, ◌<◌, ◌≤◌, min, List, ◌++◌, map, length, take, drop, sym, refl, ap, ◌∙◌, ⊎_elim, append_assoc, append-nil, add-one, arith, length-drop}
+use Rattle.std.proofs.lemmas.List.{take_all, take_at, drop_at, drop-drop, take-map, drop-map}
+use Rattle.std.proofs.Math.ListN.{drop_of_length-le}
 use Rattle.std.proofs.lemmas.Bool.{cases_lt}
-use Rattle.inspect.specs.Texts.{listed, field_line, column, in_turn, nth_field}
-
--- what stands after more text was put behind a text
-pub added : {after before more x y : List ℕ} → after ≡ before ++ more → before ≡ x → more ≡ y → after ≡ x ++ y
-added {more = more} {x = x} is was put = is ∙ ap (λ l. l ++ more) was ∙ ap (λ l. x ++ l) put
-
--- one text, and then two more behind it
-pub three : {one two all second third : List ℕ} (x y z : List ℕ) → one ≡ x → two ≡ one ++ second → second ≡ y → all ≡ two ++ third → third ≡ z → all ≡ x ++ (y ++ z)
-three x y z first put second' put' third' = added put' (added put first second') third' ∙ append_assoc x y z
-
-pub listed_more : (values : List ℕ) (i : ℕ) → i < length values → listed (take i values) ++ (codes " " ++ decimal (get_or values i 0)) ≡ listed (take (i + 1) values)
-listed_more values i h = flat_map_more (λ v. codes " " ++ decimal v) [] (take i values) (get_or values i 0) ∙ ap listed (sym (take_more values i 0 h))
+use Rattle.inspect.specs.Labels.{Labels}
+use Rattle.inspect.specs.Texts.{title_line, count_line, in_turn, nth_block, block_count}
 
 pub in_turn_more : (text : ℕ → List ℕ) (n : ℕ) → in_turn text n ++ text n ≡ in_turn text (n + 1)
 in_turn_more text n = ap (in_turn text) (sym (add-one n))
 
--- one field's line, from its name and its values
-pub field_is : (names rows : List (List ℕ)) (field : ℕ) (name values : List ℕ) → name ≡ get_or names field [] → values ≡ column field rows → field_line name values ≡ nth_field names rows field
-field_is names rows field name values n v = ap (λ x. field_line x values) n ∙ ap (field_line (get_or names field [])) v
+-- behind a head
+pub turn_more : (head : List ℕ) (text : ℕ → List ℕ) (n : ℕ) (line : List ℕ) → line ≡ text n → (head ++ in_turn text n) ++ line ≡ head ++ in_turn text (n + 1)
+turn_more head text n line is = append_assoc head (in_turn text n) line ∙ ap (λ l. head ++ (in_turn text n ++ l)) is ∙ ap (λ l. head ++ l) (in_turn_more text n)
+
+-- the text of a trace up to its n-th block
+abbrev pub inspected : Labels → ℕ → List (List ℕ) → ℕ → ℕ → List ℕ
+inspected labels machine rows padded n = title_line labels.title labels.number machine ++ (count_line (length rows) padded ++ in_turn (nth_block labels.names rows) n)
+
+module _ (labels : Labels) (machine : ℕ) (rows : List (List ℕ)) (padded : ℕ) where
+  pub inspected_more : (n : ℕ) (line : List ℕ) → line ≡ nth_block labels.names rows n → inspected labels machine rows padded n ++ line ≡ inspected labels machine rows padded (n + 1)
+  inspected_more n line is =
+      let counts = count_line (length rows) padded in
+      append_assoc (title_line labels.title labels.number machine) (counts ++ in_turn (nth_block labels.names rows) n) line
+      ∙ ap (λ l. title_line labels.title labels.number machine ++ l) (turn_more counts (nth_block labels.names rows) n line is)
+
+  pub inspected_none : (title : List ℕ) (number count : ℕ) → title ≡ labels.title → number ≡ labels.number → count ≡ length rows → title_line title number machine ++ count_line count padded ≡ inspected labels machine rows padded 0
+  inspected_none title number count t n c =
+      (λ i. title_line (t i) (n i) machine ++ count_line (c i) padded) ∙ ap (λ l. title_line labels.title labels.number machine ++ l) (sym (append-nil (count_line (length rows) padded)))
+
+-- as many blocks as there are begun
+pub all_blocks : (n count : ℕ) → n ≤ 16 * count → 16 * count < n + 16 → count ≡ block_count n
+all_blocks n count enough begun = omega arith
 
 module _ {S : Type 0} (fields : S → List ℕ) (samples : List S) where
-  -- one value more
-  pub column_more : (field i : ℕ) (x : S) → i < length samples → x ≡ get_or samples i x → column field (map fields (take i samples)) ++ (get_or (fields x) field 0 ∷ []) ≡ column field (map fields (take (i + 1) samples))
-  column_more field i x h e =
-      sym (map_push (λ row. get_or row field 0) (map fields (take i samples)) (fields x)) ∙ ap (column field) (sym (map_push fields (take i samples) x))
-      ∙ ap (λ l. column field (map fields l)) (ap (λ y. take i samples ++ (y ∷ [])) e ∙ sym (take_more samples i x h))
-
   short_part : (n : ℕ) (xs : List S) → take (min n (length xs)) xs ≡ take n xs
   short_part n xs =
       ⊎_elim (λ h. ap (λ k. take k xs) {x = min n (length xs)} {y = n} (omega arith)) (λ h. take_all (min n (length xs)) xs (omega arith) ∙ sym (take_all n xs (omega arith))) (cases_lt n (length xs))
 
-  -- the rows of a part: at most 16 samples from `first` on
-  pub part_rows : (first size : ℕ) → size ≡ min 16 (length samples - first) → map fields (take (first + size - first) (drop first samples)) ≡ take 16 (drop first (map fields samples))
-  part_rows first size e =
-      let rest = drop first samples in
-      let n : first + size - first ≡ min 16 (length rest) = omega (arith, length-drop first samples) in
-      ap (λ k. map fields (take k rest)) n ∙ ap (map fields) (short_part 16 rest) ∙ sym (take-map fields 16 rest) ∙ ap (take 16) (sym (drop-map fields first samples))
+  short_rest : (n : ℕ) (xs : List S) → drop (min n (length xs)) xs ≡ drop n xs
+  short_rest n xs =
+      ⊎_elim (λ h. ap (λ k. drop k xs) {x = min n (length xs)} {y = n} (omega arith)) (λ h. drop_of_length-le xs (omega arith) ∙ sym (drop_of_length-le xs (omega arith))) (cases_lt n (length xs))
+
+  -- the next part of at most 16 samples
+  module _ (k : ℕ) (part rest rest' : List S) (at : rest ≡ drop (16 * k) samples) (parts : rest ≡ part ++ rest') (size : length part ≡ min 16 (length rest)) where
+    pub part_rows : map fields part ≡ take 16 (drop (16 * k) (map fields samples))
+    part_rows =
+        ap (map fields) (sym (take_at part rest' (length part) refl) ∙ (λ i. take (size i) (sym parts i)) ∙ short_part 16 rest ∙ ap (take 16) at) ∙ sym (take-map fields 16 (drop (16 * k) samples))
+        ∙ sym (ap (take 16) (drop-map fields (16 * k) samples))
+
+    pub rest_on : rest' ≡ drop (16 * (k + 1)) samples
+    rest_on =
+        sym (drop_at part rest' (length part) refl) ∙ (λ i. drop (size i) (sym parts i)) ∙ short_rest 16 rest ∙ ap (drop 16) at ∙ drop-drop 16 (16 * k) samples ∙ ap (λ n. drop n samples) {x = 16 * k + 16} {y = 16 * (k + 1)} (omega arith)
+
+    -- which lies in the trace
+    pub within : 0 < length rest → (0 < length part) × (16 * k + length part ≤ length samples)
+    within some = let long : length rest ≡ length samples - 16 * k = ap length at ∙ length-drop (16 * k) samples in (omega arith, omega arith)

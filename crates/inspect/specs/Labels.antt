@@ -1,7 +1,7 @@
 -- How a kind is named. Assumes nothing.
 use Rattle.std.specs.Prelude.{ℕ, List, [], ◌∷◌, codes}
-use Rattle.inspect.specs.declared.shown.KindName.{KindName}
-use Rattle.inspect.specs.declared.shown.KindName.TheVariants.{Pulse, Stroke}
+use Rattle.trace.specs.declared.kind.KindName.{KindName}
+use Rattle.trace.specs.declared.kind.KindName.TheVariants.{Pulse, Stroke}
 
 -- a kind's number, its name and the names of its fields
 pub record Labels : Type 0 where

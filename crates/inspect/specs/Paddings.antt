@@ -1,5 +1,5 @@
 -- How many numbers of a file are padded with empty high groups. Assumes nothing.
-use Rattle.std.specs.Prelude.{◌≡◌, ℕ, ◌+◌, Bool, cond, ◌&&◌, List, [], ◌∷◌, length, ◌==◌, nat_le}
+use Rattle.std.specs.Prelude.{◌≡◌, ℕ, ◌+◌, Bool, cond, ◌&&◌, List, [], ◌∷◌, length, ◌==◌, nat_le, slice_index}
 use Rattle.std.specs.List.{flat_map}
 use Rattle.trace.specs.Numbers.{Groups, spelled}
 
@@ -9,6 +9,10 @@ one_if b = cond b 1 0
 -- a byte that says that another follows, and a byte 0 behind it
 abbrev pub pads : ℕ → ℕ → Bool
 pads a b = nat_le 128 a && b == 0
+
+-- two bytes like that
+abbrev pub pads_pair : List ℕ → Bool
+pads_pair bytes = length bytes == 2 && pads (slice_index bytes 0) (slice_index bytes 1)
 
 -- the neighbours in a file of which the second pads the first
 abbrev pub padded : List ℕ → ℕ

@@ -1,81 +1,86 @@
 //! The text of a whole trace, in blocks of samples.
-ghost use Rattle.std.specs.Prelude.{◌≡◌, ◌+◌, ◌^◌, ◌<◌, map, length, IfOk, string_bytes};
+ghost use Rattle.std.specs.Prelude.{◌+◌, ◌^◌, ◌<◌, map, length, Some};
 ghost use Rattle.inspect.specs.AnyFile.{trace_of};
 ghost use Rattle.inspect.specs.Labels.{labels};
-ghost use Rattle.inspect.specs.Texts.{column, field_lines, block, blocks, trace_text};
+ghost use Rattle.inspect.specs.Texts.{column, listed, block, trace_text};
 
 use crate::any_kind::Traced;
-use crate::lines::{block_head, count_line, field_line, title_line};
-use crate::shown::Shown;
-use std::alloc::{AllocError, Global};
+use crate::shown::{Shown, field_names, title};
+use std::fmt;
 
 /// A block has at most this many samples, so that its lines stay short enough to read.
 const PER_BLOCK: usize = 16;
 
-/// The values of one field.
-fn column<S: Shown>(heap: Global, samples: &[S], field: usize) -> Result<Vec<u8>, AllocError>
-    ensures is { IfOk result (λ v. v.items ≡ column field (map S.Sample.kind.fields samples.now)) }
-{
-    let mut values = Vec::new(heap);
-    for sample in samples {
-        values.push(sample.value(field))?;
+/// The values of one field of some samples, each behind a blank.
+#[derive(Clone, Copy)]
+struct Column<'a, S> {
+    samples: &'a [S],
+    field: usize,
+}
+
+impl<S: Shown> fmt::Display for Column<'_, S> {
+    ghost output = { λ c. Some (listed (column c.field (map S.kind.fields c.samples.now))) };
+
+    fn fmt<W: fmt::Write>(&self, f: &mut fmt::Formatter<W>) -> fmt::Result {
+        for sample in self.samples {
+            write!(f, " {}", sample.value(self.field))?;
+        }
+        Ok(())
     }
-    Ok(values)
 }
 
-/// A line for each field of some samples.
-fn field_lines<S: Shown>(heap: Global, samples: &[S]) -> Result<String, AllocError>
-    ensures is { IfOk result (λ s. string_bytes s ≡ field_lines (labels S.name).names (map S.Sample.kind.fields samples.now)) }
-{
-    let kind = S::kind_name();
-    let mut text = String::new(heap);
-    for field in 0..S::field_count() {
-        let values = column(heap, samples, field)?;
-        let line = field_line(heap, kind.field_name(field), values.as_slice())?;
-        text.push_str(line.as_str())?;
+/// Some samples, the first of which has this place in the trace.
+#[derive(Drop)]
+struct Block<'a, S> {
+    first: usize,
+    samples: &'a [S],
+    ghost some: { 0 < length samples.now },
+    ghost fits: { first + length samples.now < 2 ^ 64 },
+}
+
+impl<S: Shown> fmt::Display for Block<'_, S> {
+    ghost output = { λ b. Some (block (labels S.KIND).names b.first (map S.kind.fields b.samples.now)) };
+
+    fn fmt<W: fmt::Write>(&self, f: &mut fmt::Formatter<W>) -> fmt::Result {
+        let first = self.first;
+        let last = first + self.samples.len() - 1;
+        writeln!(f, "samples {first} to {last}")?;
+        for (field, name) in field_names(S::KIND).iter().enumerate() {
+            let samples = self.samples;
+            let column = Column { samples, field };
+            writeln!(f, "  {name}{column}")?;
+        }
+        Ok(())
     }
-    Ok(text)
 }
 
-/// The block of some samples, the first of which has this place in the trace.
-fn block<S: Shown>(heap: Global, first: usize, samples: &[S]) -> Result<String, AllocError>
-    requires some { 0 < length samples.now }
-    requires fits { first + length samples.now < 2 ^ 64 }
-    ensures is { IfOk result (λ s. string_bytes s ≡ block (labels S.name).names first (map S.Sample.kind.fields samples.now)) }
-{
-    let mut text = block_head(heap, first, first + samples.len() - 1)?;
-    let lines = field_lines(heap, samples)?;
-    text.push_str(lines.as_str())?;
-    Ok(text)
+/// A trace with how many numbers of its file are padded.
+#[derive(Clone, Copy)]
+pub struct Inspected<'a, S> {
+    pub trace: &'a Traced<S>,
+    pub padded: usize,
 }
 
-/// All samples, block by block.
-fn blocks<S: Shown>(heap: Global, samples: &[S]) -> Result<String, AllocError>
-    ensures is { IfOk result (λ s. string_bytes s ≡ blocks (labels S.name).names (map S.Sample.kind.fields samples.now)) }
-{
-    let mut text = String::new(heap);
-    for k in 0..samples.len().div_ceil(PER_BLOCK) {
-        let first = PER_BLOCK * k;
-        let size = PER_BLOCK.min(samples.len() - first);
-        let part = block(heap, first, &samples[first..first + size])?;
-        text.push_str(part.as_str())?;
+impl<S: Shown> fmt::Display for Inspected<'_, S> {
+    ghost output = { λ x. Some (trace_text (labels S.KIND) (trace_of S.kind.fields x.trace.now) x.padded) };
+
+    fn fmt<W: fmt::Write>(&self, f: &mut fmt::Formatter<W>) -> fmt::Result {
+        let title = title(S::KIND);
+        let number = S::KIND.number();
+        let machine = self.trace.machine;
+        writeln!(f, "{title} trace (kind {number}) of machine {machine}")?;
+        let samples = self.trace.samples.as_slice();
+        let count = samples.len();
+        let padded = self.padded;
+        writeln!(f, "samples {count}, padded numbers {padded}")?;
+        for (k, part) in samples.chunks(PER_BLOCK).enumerate() {
+            let first = PER_BLOCK * k;
+            let block = Block {
+                first,
+                samples: part,
+            };
+            write!(f, "{block}")?;
+        }
+        Ok(())
     }
-    Ok(text)
-}
-
-/// The whole text of a trace, in whose file this many numbers are padded.
-pub fn trace_text<S: Shown>(
-    heap: Global,
-    trace: &Traced<S>,
-    padded: usize,
-) -> Result<String, AllocError>
-    ensures is { IfOk result (λ s. string_bytes s ≡ trace_text (labels S.name) (trace_of S.Sample.kind.fields trace.now) padded) }
-{
-    let title = S::kind_name().title();
-    let mut text = title_line(heap, title, S::kind_number(), trace.machine)?;
-    let counts = count_line(heap, trace.samples.len(), padded)?;
-    text.push_str(counts.as_str())?;
-    let list = blocks(heap, trace.samples.as_slice())?;
-    text.push_str(list.as_str())?;
-    Ok(text)
 }

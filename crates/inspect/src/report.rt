@@ -4,9 +4,10 @@ ghost use Rattle.inspect.specs.AnyFile.{any_of};
 ghost use Rattle.inspect.specs.Reports.{any_text, report_text};
 
 use crate::any_kind::{AnyTrace, LONGEST_FILE, read_any};
-use crate::blocks::trace_text;
+use crate::blocks::Inspected;
 use crate::padding::padded;
 use crate::words::{refusal_text, too_long};
+use console::failure::Failure;
 use std::alloc::{AllocError, Global};
 
 /// The text of a trace of any kind, in whose file this many numbers are padded.
@@ -14,8 +15,8 @@ fn any_text(heap: Global, trace: &AnyTrace, padded: usize) -> Result<String, All
     ensures is { IfOk result (λ s. string_bytes s ≡ any_text (any_of trace.now) padded) }
 {
     match trace {
-        AnyTrace::Pulses(pulses) => trace_text(heap, pulses, padded),
-        AnyTrace::Strokes(strokes) => trace_text(heap, strokes, padded),
+        AnyTrace::Pulses(trace) => Inspected { trace, padded }.to_string(heap),
+        AnyTrace::Strokes(trace) => Inspected { trace, padded }.to_string(heap),
     }
 }
 
@@ -26,8 +27,9 @@ pub fn report(heap: Global, input: &[u8]) -> Result<String, AllocError>
     if input.len() > LONGEST_FILE {
         return too_long(heap);
     }
-    match read_any(heap, input)? {
+    match read_any(heap, input) {
         Ok(trace) => any_text(heap, &trace, padded(input)),
-        Err(fault) => refusal_text(heap, fault),
+        Err(Failure::Refused(fault)) => refusal_text(heap, fault),
+        Err(Failure::NoMemory(error)) => Err(error),
     }
 }

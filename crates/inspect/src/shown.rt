@@ -1,77 +1,50 @@
 //! How a kind of sample is shown.
-ghost use Rattle.std.specs.Prelude.{◌≡◌, [], length, slice_index, slice_index_or};
-ghost use Rattle.inspect.specs.declared.shown.KindName.{KindName};
+ghost use Rattle.std.specs.Prelude.{◌≡◌, map, length, slice_index};
+ghost use Rattle.trace.specs.declared.kind.KindName.{KindName};
 ghost use Rattle.inspect.specs.Labels.{labels};
 ghost use Rattle.std.proofs.Common.{rules};
 
+use trace::kind::KindName;
 use trace::pulse::Pulse;
 use trace::sample::Sample;
 use trace::stroke::Stroke;
 
-/// The kinds, to name them and their fields by.
-#[derive(Clone, Copy, PartialEq, Debug)]
-pub enum KindName {
-    Pulse,
-    Stroke,
-}
-
-impl KindName {
-    /// The kind's name.
-    pub(crate) fn title(self) -> &'static str
-        ensures is { result.now ≡ (labels self).title }
-    {
-        match self {
-            KindName::Pulse => "pulse",
-            KindName::Stroke => "stroke",
-        }
-    }
-
-    /// The name of a field, counted from 0; past the last field it is empty.
-    pub(crate) fn field_name(self, field: usize) -> &'static str
-        ensures is { result.now ≡ slice_index_or (labels self).names field [] }
-    {
-        match (self, field) {
-            (KindName::Pulse, 0) => "class",
-            (KindName::Stroke, 0) => "drive",
-            (KindName::Stroke, 1) => "recovery",
-            (KindName::Stroke, 2) => "slack",
-            _ => "",
-        }
+/// A kind's name.
+// By a match, and no constant of `Shown`: a kind is told by name here, as in a file.
+pub(crate) fn title(kind: KindName) -> &'static str
+    ensures is { result.now ≡ (labels kind).title }
+{
+    match kind {
+        KindName::Pulse => "pulse",
+        KindName::Stroke => "stroke",
     }
 }
 
-/// A kind of sample whose fields have names.
+/// The names of a kind's fields.
+pub(crate) fn field_names(kind: KindName) -> &'static [&'static str]
+    ensures is { map (λ name. name.now) result.now ≡ (labels kind).names }
+{
+    match kind {
+        KindName::Pulse => &["class"],
+        KindName::Stroke => &["drive", "recovery", "slack"],
+    }
+}
+
+/// A kind of sample whose fields are shown, by the names that its kind has for them.
 pub trait Shown: Sample {
-    /// What `kind_name` answers.
-    const LABEL: KindName;
-
-    ghost name: { KindName };
-
-    /// The kind, by which it and its fields are named.
-    fn kind_name() -> KindName
-        ensures is { result ≡ name };
-
     /// The value of a field; past the last field it is 0.
     fn value(&self, field: usize) -> u8
-        ensures is { result ≡ slice_index (Self.Sample.kind.fields self.now) field };
+        ensures is { result ≡ slice_index (Self.kind.fields self.now) field };
 
-    ghost numbered: { (labels name).number ≡ Self.Sample.kind.number };
+    ghost numbered: { (labels Self.KIND).number ≡ Self.kind.number };
 
-    ghost named: { length (labels name).names ≡ length Self.Sample.kind.tops };
+    ghost counted: { length (labels Self.KIND).names ≡ length Self.kind.tops };
 }
 
 impl Shown for Pulse {
-    const LABEL: KindName = KindName::Pulse;
-
-    ghost name = { KindName.Pulse };
-
     ghost numbered = { Prim.search rules };
 
-    ghost named = { Prim.search rules };
-
-    fn kind_name() -> KindName {
-        Self::LABEL
-    }
+    ghost counted = { Prim.search rules };
 
     fn value(&self, field: usize) -> u8 {
         match field {
@@ -82,17 +55,9 @@ impl Shown for Pulse {
 }
 
 impl Shown for Stroke {
-    const LABEL: KindName = KindName::Stroke;
-
-    ghost name = { KindName.Stroke };
-
     ghost numbered = { Prim.search rules };
 
-    ghost named = { Prim.search rules };
-
-    fn kind_name() -> KindName {
-        Self::LABEL
-    }
+    ghost counted = { Prim.search rules };
 
     fn value(&self, field: usize) -> u8 {
         match field {

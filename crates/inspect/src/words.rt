@@ -2,13 +2,14 @@
 ghost use Rattle.std.specs.Prelude.{◌≡◌, ℕ, List, IfOk, string_bytes};
 ghost use Rattle.trace.specs.Refusals.{cause_number, field_number, told_fault};
 ghost use Rattle.inspect.specs.AnyFile.{NoneLonger};
-ghost use Rattle.inspect.specs.Wordings.{cause_words, field_name, cause_line, place_line, refusal_text, too_long};
+ghost use Rattle.inspect.specs.Wordings.{cause_words, field_name, refusal_text, too_long};
 
 use crate::any_kind::LONGEST_FILE;
 use std::alloc::{AllocError, Global};
 use trace::refusal::{Cause, Fault, Field};
 
 /// What is wrong in a file.
+// By a match, and no `Display`: causes and fields are of another crate, and have words only here.
 fn cause_words(cause: Cause) -> &'static str
     ensures is { result.now ≡ cause_words (cause_number cause) }
 {
@@ -34,32 +35,20 @@ fn field_name(field: Field) -> &'static str
     }
 }
 
-/// The line that says why a file is refused.
-fn cause_line(heap: Global, cause: Cause) -> Result<String, AllocError>
-    ensures is { IfOk result (λ s. string_bytes s ≡ cause_line (cause_number cause)) }
-{
-    let number = cause.number();
-    let words = cause_words(cause);
-    format!(in heap; "refused {number}: {words}\n")
-}
-
-/// The line that says where the fault lies.
-fn place_line(heap: Global, place: usize, field: Field) -> Result<String, AllocError>
-    ensures is { IfOk result (λ s. string_bytes s ≡ place_line place (field_number field)) }
-{
-    let number = field.number();
-    let name = field_name(field);
-    format!(in heap; "byte place {place}, field {number} ({name})\n")
-}
-
 /// Why a file is refused, and where.
 pub fn refusal_text(heap: Global, fault: Fault) -> Result<String, AllocError>
     ensures is { IfOk result (λ s. string_bytes s ≡ refusal_text (told_fault fault)) }
 {
-    let mut text = cause_line(heap, fault.cause)?;
-    let place = place_line(heap, fault.place, fault.field)?;
-    text.push_str(place.as_str())?;
-    Ok(text)
+    let Fault {
+        cause,
+        place,
+        field,
+    } = fault;
+    let number = cause.number();
+    let words = cause_words(cause);
+    let part = field.number();
+    let name = field_name(field);
+    format!(in heap; "refused {number}: {words}\nbyte place {place}, field {part} ({name})\n")
 }
 
 /// The refusal of an input that is longer than any trace file.

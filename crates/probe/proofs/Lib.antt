@@ -2,5 +2,3 @@ pub mod Finding
 pub mod Parting
 pub mod Pulses
 pub mod Reporting
-pub mod Stopping
-pub mod Writing

@@ -1,25 +1,9 @@
 -- An input that is put together of parts is taken apart into them. Assumes nothing.
-use Rattle.std.proofs.Common.{◌≡◌, ℕ, ◌≤◌, List, [], ◌++◌, length, Ok, Result, refl, ap, ◌∙◌, arith, length-append}
-use Rattle.std.proofs.lemmas.List.{take_at, drop_at}
-use Rattle.std.proofs.lemmas.Bool.{cond-true, le-leb}
-use Rattle.trace.proofs.Spelling.{begins_found, begins_rest}
-use Rattle.trace.specs.Spelling.{Begins}
-use Rattle.probe.specs.Framing.{Front, Framed, front_of, front_number, sized, front_file, ended, after_query, after_k, after_m, framing, HoldsFile, Holds, TakesApart}
-use Rattle.probe.specs.Refusals.{and_then}
-
-number_there : (v : ℕ) (bytes rest : List ℕ) → Begins v bytes rest → front_number bytes ≡ Ok (record { value = v; rest = rest })
-number_there v bytes rest b = ap (front_of bytes) (begins_found v bytes rest b) ∙ ap (λ r. Ok (record { value = v; rest = r })) (begins_rest v bytes rest b)
-
-sized_there : (file rest : List ℕ) → sized (record { value = length file; rest = file ++ rest }) ≡ Ok (record { value = file; rest = rest })
-sized_there file rest =
-    let room : length file ≤ length (file ++ rest) = omega (arith, length-append file rest) in
-    cond-true _ _ _ (le-leb (length file) (length (file ++ rest)) room)
-    ∙ (λ i. Ok (record { value = take_at file rest (length file) refl i; rest = drop_at file rest (length file) refl i }))
-
-file_there : (bytes file rest : List ℕ) → HoldsFile bytes file rest → front_file bytes ≡ Ok (record { value = file; rest = rest })
-file_there bytes file rest h =
-    ap (λ r. and_then r sized) (number_there (length file) bytes h.behind h.size) ∙ ap (λ b. sized (record { value = length file; rest = b })) h.is
-    ∙ sized_there file rest
+use Rattle.std.proofs.Common.{◌≡◌, ℕ, List, [], Ok, Result, ap, ◌∙◌}
+use Rattle.console.proofs.Parting.{number_there, file_there}
+use Rattle.console.specs.Parts.{Front}
+use Rattle.console.specs.Refusals.{and_then}
+use Rattle.probe.specs.Framing.{Framed, ended, after_query, after_k, after_m, framing, Holds, TakesApart}
 
 framed_there : (input : List ℕ) (f : Framed) → Holds input f → framing input ≡ Ok f
 framed_there input f h =

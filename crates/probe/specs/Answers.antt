@@ -1,18 +1,19 @@
 -- What a search answers. Assumes nothing.
-use Rattle.std.specs.Prelude.{◌≡◌, ℕ, true, false, cond, List, length, Ok, Err, vec_items, Result, nat_lt}
+use Rattle.std.specs.Prelude.{◌≡◌, ℕ, cond, List, length, Ok, Err, vec_items, Result, nat_lt}
 use Rattle.filters.specs.Filters.{Rule, Reach, places}
 use Rattle.filters.specs.Matching.{pairs}
-use Rattle.filters.specs.Questions.{near}
-use Rattle.filters.specs.Rules.{tuple_rule, tuple_reach}
 use Rattle.search.specs.declared.matches.Match.{Match}
 use Rattle.search.specs.Listing.{match_list}
 use Rattle.search.specs.Words.{Whole}
 use Rattle.trace.specs.Kinds.{pulse}
+use Rattle.console.specs.Parts.{longest}
+use Rattle.console.specs.Refusals.{and_then}
+use Rattle.console.specs.declared.failure.Failure.{Failure}
+use Rattle.console.specs.declared.failure.Failure.TheVariants.{Refused, NoMemory}
 use Rattle.probe.specs.declared.answer.Answer.{Answer}
-use Rattle.probe.specs.declared.failure.Failure.{Failure}
-use Rattle.probe.specs.declared.failure.Failure.TheVariants.{Refused, NoMemory}
+use Rattle.probe.specs.declared.refusal.Refusal.{Refusal}
 use Rattle.probe.specs.Framing.{framing}
-use Rattle.probe.specs.Refusals.{refusal_number, and_then}
+use Rattle.probe.specs.Refusals.{refusal_number}
 use Rattle.probe.specs.Tasks.{Task, task}
 
 -- what is shown of a search
@@ -43,22 +44,11 @@ pub record Finds (rule : Rule) (reach : Reach) (x : Task) (a : Answer) : Type 0 
   pub whole : Whole pulse.agree x.question x.trace 1 (vec_items a.matches)
 
 -- a task is done, or its refusal told; where there was too little memory, nothing is said
-abbrev pub Searched : Rule → Reach → Result Answer Failure → Result Task ℕ → Type 0
+abbrev pub Searched : Rule → Reach → Result Answer (Failure Refusal) → Result Task ℕ → Type 0
 Searched rule reach (Ok a) (Ok x) = Finds rule reach x a
 Searched rule reach (Ok a) (Err n) = ⊥
 Searched rule reach (Err (Refused e)) x = Err (refusal_number e) ≡ x
 Searched rule reach (Err (NoMemory e)) x = Unit {0}
-
--- the filter of the program: neighbouring codes, and codes k + 1 apart near them
-abbrev pub near_rule : Rule
-near_rule = near (tuple_rule false) (tuple_reach false) (tuple_rule true) (tuple_reach true)
-
-abbrev pub near_reach : Reach
-near_reach = tuple_reach false
-
--- the most bytes that the program takes
-abbrev pub longest : ℕ
-longest = 32768
 
 -- what an input asks, or the number of its first refusal
 abbrev pub input_task : List ℕ → Result Task ℕ

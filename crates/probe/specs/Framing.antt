@@ -1,16 +1,9 @@
 -- The input: m, k, and two files behind their lengths. Assumes nothing.
-use Rattle.std.specs.Prelude.{◌≡◌, ℕ, cond, List, [], ◌++◌, length, take, drop, Ok, Err, Result, nat_le, nat_lt}
-use Rattle.trace.specs.Numbers as trace
+use Rattle.std.specs.Prelude.{◌≡◌, ℕ, cond, List, [], length, Ok, Err, Result, nat_lt}
 use Rattle.trace.specs.Spelling.{Begins}
+use Rattle.console.specs.Parts.{Front, front_number, front_file, HoldsFile}
+use Rattle.console.specs.Refusals.{and_then}
 use Rattle.probe.specs.declared.frame.Frames.{Frames}
-use Rattle.probe.specs.declared.frame.Numeral.{Numeral}
-use Rattle.probe.specs.declared.frame.Part.{Part}
-use Rattle.probe.specs.Refusals.{and_then}
-
--- what stands at the front of some bytes, and the bytes behind it
-pub record Front (A : Type 0) : Type 0 where
-  pub value : A
-  pub rest : List ℕ
 
 -- what the input asks
 pub record Framed : Type 0 where
@@ -18,21 +11,6 @@ pub record Framed : Type 0 where
   pub k : ℕ
   pub query : List ℕ
   pub trace : List ℕ
-
--- a number as in a trace file
-abbrev pub front_of : List ℕ → trace.Number → Result (Front ℕ) ℕ
-front_of bytes (trace.found v n) = Ok (record { value = v; rest = drop n bytes })
-front_of bytes (trace.none e) = Err e
-
-abbrev pub front_number : List ℕ → Result (Front ℕ) ℕ
-front_number bytes = front_of bytes (trace.number 3 bytes)
-
--- a file of this many bytes; fewer are refused
-abbrev pub sized : Front ℕ → Result (Front (List ℕ)) ℕ
-sized size = cond (nat_le size.value (length size.rest)) (Ok (record { value = take size.value size.rest; rest = drop size.value size.rest })) (Err 4)
-
-abbrev pub front_file : List ℕ → Result (Front (List ℕ)) ℕ
-front_file bytes = and_then (front_number bytes) sized
 
 -- nothing is left over behind the trace's file
 abbrev pub ended : Front ℕ → Front ℕ → Front (List ℕ) → Front (List ℕ) → Result Framed ℕ
@@ -52,20 +30,8 @@ abbrev pub framing : List ℕ → Result Framed ℕ
 framing input = and_then (front_number input) after_m
 
 -- what the code holds, as the definitions have it
-abbrev pub numeral : Numeral → Front ℕ
-numeral n = record { value = n.value; rest = n.rest.now }
-
-abbrev pub part : Part → Front (List ℕ)
-part p = record { value = p.file.now; rest = p.rest.now }
-
 abbrev pub framed : Frames → Framed
 framed f = record { m = f.m; k = f.k; query = f.query.now; trace = f.trace.now }
-
--- the bytes begin with the length of a file, however padded, and the file, and then comes rest
-pub record HoldsFile (bytes file rest : List ℕ) : Type 0 where
-  pub behind : List ℕ
-  pub size : Begins (length file) bytes behind
-  pub is : behind ≡ file ++ rest
 
 -- the input is put together of these parts, one behind the other, and nothing else
 pub record Holds (input : List ℕ) (f : Framed) : Type 0 where

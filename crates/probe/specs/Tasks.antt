@@ -7,8 +7,8 @@ use Rattle.filters.specs.Refusals.{refusal_number}
 use Rattle.trace.specs.Files.{Trace, trace_file}
 use Rattle.trace.specs.Kinds.{pulse}
 use Rattle.trace.specs.Told.{Told, number_of}
+use Rattle.console.specs.Refusals.{and_then}
 use Rattle.probe.specs.Framing.{Framed}
-use Rattle.probe.specs.Refusals.{and_then}
 
 -- the codes of a trace, or the number of a file's first fault
 abbrev pub codes_told : Result Trace Told → Result (List ℕ) ℕ

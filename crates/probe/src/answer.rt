@@ -1,29 +1,20 @@
 //! What a search finds.
 ghost use Rattle.std.specs.Prelude.{◌≤◌, length, Ok};
+ghost use Rattle.filters.specs.Asked.{asked};
 ghost use Rattle.filters.specs.Filters.{StandsFor};
 ghost use Rattle.probe.specs.Answers.{Searched};
 
-use crate::failure::Failure;
+use crate::refusal::{Failure, Refusal};
 use filters::filter::Filter;
+use filters::held::MOST_CODES;
+use filters::question::Question;
 use search::matches::{Found, Match};
-use search::question::Question;
 use search::scan::scan;
 use std::alloc::{AllocError, Global};
 use trace::pulse::Pulse;
 
 /// The accession number of the one trace.
 const ACCESSION: u32 = 1;
-
-/// The most codes that a filter takes, and so the most marks of a row.
-const LONGEST_QUERY: usize = 1_024;
-
-/// What stands in the list until the matches are written over it.
-const BLANK: Match = Match {
-    accession: 0,
-    trace: 0,
-    query: 0,
-    mismatches: 0,
-};
 
 /// What was found in a trace.
 #[derive(Drop)]
@@ -45,11 +36,13 @@ pub fn find<F: Filter>(
     question: Question<'_>,
     trace: &[u16],
 ) -> Result<Answer, Failure>
-    ensures { StandsFor F.Filter.rule F.Filter.reaches (F.Filter.stands filter.now) (record { codes = question.entry.codes.now; m = question.entry.m; k = question.entry.k }) → length trace.now ≤ 4096 → Searched F.Filter.rule F.Filter.reaches result (Ok (record { question = record { codes = question.entry.codes.now; m = question.entry.m; k = question.entry.k }; trace = trace.now })) }
+    ensures { StandsFor F.rule F.reaches (F.stands filter.now) (asked question.entry) → length trace.now ≤ 4096 → Searched F.rule F.reaches result (Ok (record { question = asked question.entry; trace = trace.now })) }
 {
-    let mut marks = [0u8; LONGEST_QUERY];
-    let found = scan::<Pulse, F>(filter, question, trace, ACCESSION, &mut marks, &mut [])?;
-    let mut matches = vec![in heap; BLANK; found.pairs]?;
+    let mut marks = [0u8; MOST_CODES];
+    let found = scan::<Pulse, F>(filter, question, trace, ACCESSION, &mut marks, &mut []).map_err(
+        Refusal::Scan,
+    )?;
+    let mut matches = vec![in heap; Match::NONE; found.pairs]?;
     scan::<Pulse, F>(
         filter,
         question,
@@ -57,7 +50,8 @@ pub fn find<F: Filter>(
         ACCESSION,
         &mut marks,
         matches.as_mut_slice(),
-    )?;
+    )
+    .map_err(Refusal::Scan)?;
     Ok(Answer {
         samples: trace.len(),
         found,

@@ -1,21 +1,20 @@
 //! Why an input is refused.
 ghost use Rattle.std.specs.Prelude.{◌≡◌};
+ghost use Rattle.console.specs.declared.failure.Failure.TheVariants.{Refused};
 ghost use Rattle.probe.specs.Refusals.{refusal_number};
-ghost use Rattle.probe.specs.declared.refusal.Refusal.TheVariants.{Number};
+ghost use Rattle.probe.specs.declared.refusal.Refusal.TheVariants.{Input};
 
+use console::failure;
+use console::refusal::Refusal as InputRefusal;
 use filters::refusal::Refusal as FilterRefusal;
 use search::refusal::Refusal as ScanRefusal;
-use trace::refusal::{Cause, Refusal as FileRefusal};
+use trace::refusal::Refusal as FileRefusal;
 
 /// Why an input was refused.
 #[derive(Clone, Copy)]
 pub enum Refusal {
-    /// The input has more bytes than the program takes.
-    InputTooLong,
-    /// A number outside of the files is not there: m, k, or the length of a file.
-    Number(Cause),
-    /// A length goes past the end of the input.
-    FileCutOff,
+    /// The input cannot be taken apart.
+    Input(InputRefusal),
     /// Bytes are left over behind the trace's file.
     BytesLeftOver,
     /// One of the files was refused.
@@ -26,15 +25,16 @@ pub enum Refusal {
     Scan(ScanRefusal),
 }
 
+/// Why there is no answer.
+pub type Failure = failure::Failure<Refusal>;
+
 impl Refusal {
     /// The number of the refusal.
     pub fn number(self) -> u8
         ensures { result ≡ refusal_number self }
     {
         match self {
-            Refusal::InputTooLong => 3,
-            Refusal::Number(cause) => cause.number(),
-            Refusal::FileCutOff => 4,
+            Refusal::Input(refusal) => refusal.number(),
             Refusal::BytesLeftOver => 8,
             Refusal::File(refusal) => refusal.number(),
             Refusal::Filter(refusal) => refusal.number(),
@@ -43,10 +43,19 @@ impl Refusal {
     }
 }
 
-impl From<Cause> for Refusal {
-    ghost from_gives = { λ cause r. r ≡ Number cause };
+impl From<InputRefusal> for Refusal {
+    ghost from_gives = { λ e r. r ≡ Input e };
 
-    fn from(cause: Cause) -> Refusal {
-        Refusal::Number(cause)
+    fn from(refusal: InputRefusal) -> Refusal {
+        Refusal::Input(refusal)
+    }
+}
+
+// In each program: one for every refusal would meet that for want of memory.
+impl From<Refusal> for Failure {
+    ghost from_gives = { λ e r. r ≡ Refused e };
+
+    fn from(refusal: Refusal) -> Failure {
+        Failure::Refused(refusal)
     }
 }

@@ -4,21 +4,24 @@ ghost use Rattle.probe.specs.Answers.{shown};
 ghost use Rattle.probe.specs.Reports.{shown_text, report_text};
 
 use crate::answer::Answer;
-use crate::failure::Failure;
-use crate::lines::{HEADING, pair_lines, refusal_line, summary_line};
+use crate::refusal::Failure;
 use crate::task::search_input;
+use console::table::{Summary, Table, refusal_line};
 use std::alloc::{AllocError, Global};
 
 /// The text of an answer: the heading, a line for each pair, and the summary.
 fn answer_text(heap: Global, answer: &Answer) -> Result<String, AllocError>
     ensures is { IfOk result (λ s. string_bytes s ≡ shown_text (shown answer.now)) }
 {
-    let mut text = String::from_str(heap, HEADING)?;
-    let pairs = pair_lines(heap, answer.matches.as_slice())?;
-    text.push_str(pairs.as_str())?;
-    let summary = summary_line(heap, answer.samples, answer.found, answer.reach)?;
-    text.push_str(summary.as_str())?;
-    Ok(text)
+    let summary = Summary {
+        traces: 1,
+        samples: answer.samples,
+        pairs: answer.found.pairs,
+        places: answer.found.places,
+        reach: answer.reach,
+    };
+    let matches = answer.matches.as_slice();
+    Table { matches, summary }.to_string(heap)
 }
 
 /// What an input's search finds, or why it is refused.

@@ -1,5 +1,5 @@
 use Rattle.std.proofs.Common.{string_bytes}
-use Rattle.findings.specs.Reports.{near_rule, near_reach}
+use Rattle.console.specs.Filtering.{near_rule, near_reach}
 use Rattle.findings.specs.Sessions.{session}
 use Rattle.findings.proofs.Telling.{shown, parts_text, made_text, made_parts}
 use Rattle.findings.proofs.Worked.{examples}

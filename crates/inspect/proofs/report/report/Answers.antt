@@ -1,5 +1,5 @@
-use Rattle.std.proofs.Common.{Ok, Err, string_bytes, sym, refl, ap, ◌∙◌, arith}
-use Rattle.trace.specs.Refusals.{answer, told_fault}
+use Rattle.std.proofs.Common.{Ok, Err, string_bytes, refl, arith}
+use Rattle.trace.specs.Refusals.{told_fault}
 use Rattle.inspect.specs.AnyFile.{any_of}
 use Rattle.inspect.specs.Paddings.{padded}
 use Rattle.inspect.specs.Reports.{answer_text, report_text}
@@ -13,13 +13,11 @@ returns-then-input-gt-LONGEST_FILE c = record { is = made_same string_bytes c.to
 pub returns-in-Ok : goal.returns-in-Ok
 returns-in-Ok c =
     let input = c.args.input.now in
-    let r = answer any_of told_fault (Ok c.in-Ok.trace) in
-    let is = sym (ap (answer any_of told_fault) c.in-Ok.is) ∙ c.in_ok-trace.ensures.is in
-    record { is = made_same string_bytes c.any_text.result (answer_text r c.padded.result) (report_text input) (answered input r c.padded.result (omega arith) is c.padded.ensures.is) c.any_text.ensures.is }
+    let r = Ok (any_of c.in-Ok.trace) in
+    record { is = made_same string_bytes c.any_text.result (answer_text r c.padded.result) (report_text input) (answered input r c.padded.result (omega arith) c.in-Ok.ensures.is c.padded.ensures.is) c.any_text.ensures.is }
 
-pub returns-in-Err : goal.returns-in-Err
-returns-in-Err c =
+pub returns-in-Err-Refused : goal.returns-in-Err-Refused
+returns-in-Err-Refused c =
     let input = c.args.input.now in
-    let r = answer any_of told_fault (Err c.in-Err.fault) in
-    let is = sym (ap (answer any_of told_fault) c.in-Err.is) ∙ c.in_ok-trace.ensures.is in
-    record { is = made_same string_bytes c.refusal_text.result (answer_text r (padded input)) (report_text input) (answered input r (padded input) (omega arith) is refl) c.refusal_text.ensures.is }
+    let r = Err (told_fault c.in-Err-Refused.fault) in
+    record { is = made_same string_bytes c.refusal_text.result (answer_text r (padded input)) (report_text input) (answered input r (padded input) (omega arith) (rw c.in-Err-Refused.field-0-is at c.in-Err-Refused.ensures.is) refl) c.refusal_text.ensures.is }

@@ -1,5 +1,6 @@
 use Rattle.std.proofs.Common.{subst, arith}
-use Rattle.probe.specs.Answers.{Searched, near_rule, near_reach}
+use Rattle.console.specs.Filtering.{near_rule, near_reach}
+use Rattle.probe.specs.Answers.{Searched}
 use Rattle.probe.specs.Framing.{framed}
 use Rattle.probe.proofs.Reporting.{begun}
 use Rattle.probe.proofs.task.search_input.Goals as goal

@@ -4,10 +4,10 @@ use Rattle.findings.specs.Desks.{Keeps}
 use Rattle.findings.proofs.Bringing.{Going}
 use Rattle.findings.proofs.desk.Desk.bring_all.Given as goal
 
-abbrev pub invariant-loop-rest : goal.invariant-loop-rest
-invariant-loop-rest g l =
+abbrev pub invariant-loop-files : goal.invariant-loop-files
+invariant-loop-files g l =
     (h : List Call) → Keeps g.F.Filter.rule g.F.Filter.reaches g.F.Filter.stands h l.initial.self →
-    Going g.F.Filter.rule g.F.Filter.reaches g.F.Filter.stands h l.initial.rest l.self l.rest
+    Going g.F.Filter.rule g.F.Filter.reaches g.F.Filter.stands h l.initial.files.rest.now l.self l.files.rest.now
 
-abbrev pub decreases-loop-rest : goal.decreases-loop-rest
-decreases-loop-rest g l = length l.rest
+abbrev pub decreases-loop-files : goal.decreases-loop-files
+decreases-loop-files g l = length l.files.rest.now

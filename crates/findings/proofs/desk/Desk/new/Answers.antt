@@ -1,17 +1,7 @@
 use Rattle.std.proofs.Common.{◌≡◌, length, sym, ◌∙◌, arith}
 use Rattle.std.proofs.lemmas.List.{with_items_is}
-use Rattle.std.proofs.lemmas.Result.{IfOk-from_err}
 use Rattle.findings.proofs.Calling.{opened, never_declined}
 use Rattle.findings.proofs.desk.Desk.new.Goals as goal
-
-pub returns-in_err-list : goal.returns-in_err-list
-returns-in_err-list g c = IfOk-from_err _ _ c.from_residual-in_err-list.ensures.0
-
-pub returns-in_err-codes : goal.returns-in_err-codes
-returns-in_err-codes g c = IfOk-from_err _ _ c.from_residual-in_err-codes.ensures.0
-
-pub returns-in_err-marks : goal.returns-in_err-marks
-returns-in_err-marks g c = IfOk-from_err _ _ c.from_residual-in_err-marks.ensures.0
 
 pub unreachable-requires : goal.unreachable-requires
 unreachable-requires g c =

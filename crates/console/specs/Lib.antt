@@ -1,0 +1,4 @@
+pub mod Refusals
+pub mod Parts
+pub mod Filtering
+pub mod Texts
