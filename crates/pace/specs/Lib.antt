@@ -1,2 +1,2 @@
-pub mod Draws
 pub mod Places
+pub mod Inputs

@@ -4,6 +4,7 @@ use std::alloc::AllocError;
 use std::io;
 
 /// Why measuring ended early.
+// The crate trials has the like with another first cause: what both need of a crate below them would be two conversions.
 #[derive(Debug, Drop)]
 pub enum Failure {
     /// A filter refused its question or its marks.

@@ -1,15 +1,23 @@
 //! The queries and traces that filters are tried on.
-ghost use Rattle.std.specs.Prelude.{◌≡◌, length, ◌≢◌};
+ghost use Rattle.std.specs.Prelude.{◌≡◌, length, replicate, IfOk, ◌<◌, ◌≢◌};
+ghost use Rattle.pace.specs.Inputs.{Pulses, Sized};
 
-use crate::draws::Draws;
 use crate::question::{K, M};
+use draws::Draws;
+use filters::held::MOST_CODES;
 use std::alloc::{AllocError, Global};
+use trace::file::MOST_SAMPLES;
+use trace::pulse::Pulse;
+use trace::sample::Sample;
+
+/// Where the draws start. Any number will do, as long as it stays the same.
+pub const SEED: u64 = 20_260_101;
 
 /// The codes of the query, the most that a filter takes.
-const QUERY: usize = 1_024;
+const QUERY: usize = MOST_CODES;
 
 /// The codes of the trace, the most that a trace has.
-const TRACE: usize = 4_096;
+const TRACE: usize = MOST_SAMPLES;
 
 /// The rows that are marked of the trace drawn by chance: all.
 const ALL_ROWS: u16 = TRACE as u16;
@@ -43,10 +51,12 @@ pub struct Input {
 
 impl Input {
     /// Codes drawn by chance, with one match.
-    pub fn random(heap: Global) -> Result<Input, AllocError> {
-        let mut draws = Draws::new();
-        let query = draws.codes(heap, QUERY)?;
-        let mut trace = draws.codes(heap, TRACE)?;
+    pub fn random(heap: Global) -> Result<Input, AllocError>
+        ensures { IfOk result (Sized 4096) }
+    {
+        let mut draws = Draws::new(SEED);
+        let query = draws.codes(heap, QUERY, Pulse::CODES)?;
+        let mut trace = draws.codes(heap, TRACE, Pulse::CODES)?;
         plant(query.as_slice(), trace.as_mut_slice());
         Ok(Input {
             name: "random",
@@ -57,7 +67,10 @@ impl Input {
     }
 
     /// One code throughout, so that filters pass nearly every place.
-    pub fn dense(heap: Global) -> Result<Input, AllocError> {
+    pub fn dense(heap: Global) -> Result<Input, AllocError>
+        ensures size { IfOk result (Sized 256) }
+        ensures codes { IfOk result (λ input. (input.query.items ≡ replicate 1024 7) × (input.trace.items ≡ replicate 4096 7)) }
+    {
         Ok(Input {
             name: "dense",
             query: vec![in heap; DENSE_CODE; QUERY]?,
@@ -70,20 +83,19 @@ impl Input {
 /// Copies a stretch of the query into the trace, and changes some of its codes there.
 fn plant(query: &[u16], trace: &mut [u16])
     requires { (length query.now ≡ 1024) × (length trace.old ≡ 4096) }
+    ensures { Pulses query.now → Pulses trace.old → Pulses trace.new }
 {
-    for x in 0..M {
-        let code = query[QUERY_START + x];
-        trace[TRACE_START + x] = if CHANGED.contains(&x) {
-            other(code)
-        } else {
-            code
-        };
+    let stretch = &mut trace[TRACE_START..TRACE_START + M];
+    stretch.copy_from_slice(&query[QUERY_START..QUERY_START + M]);
+    for x in CHANGED {
+        stretch[x] = other(stretch[x]);
     }
 }
 
 /// A code that is not this one.
 fn other(code: u16) -> u16
-    ensures { result ≢ code }
+    ensures other { result ≢ code }
+    ensures small { result < 20 }
 {
     if code == 0 { 1 } else { 0 }
 }

@@ -3,13 +3,13 @@
 #![tactic(auto)]
 
 mod cost;
-mod draws;
 mod failure;
 mod growth;
 mod input;
 mod places;
 mod question;
 mod stopwatch;
+mod visit;
 
 use crate::cost::print_costs;
 use crate::failure::Failure;

@@ -12,8 +12,9 @@ pub fn count_places<F: Filter>(
     rows: u16,
     marks: &mut [u8],
 ) -> Result<usize, Refusal>
-    ensures { Counted (F.Filter.stands filter.now) trace.now rows (length marks.old) result }
+    ensures { Counted (F.stands filter.now) trace.now rows (length marks.old) result }
 {
+    // A loop: of a sum of results no contract says which row is refused.
     let mut places = 0;
     for j in 0..rows {
         places += filter.mark_row(trace, j as usize, marks)?;

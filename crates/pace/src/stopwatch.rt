@@ -3,6 +3,7 @@ use crate::failure::Failure;
 use crate::places::count_places;
 use crate::question::{K, M};
 use filters::filter::Filter;
+use filters::question::Question;
 use filters::refusal::Refusal;
 use std::time::{Duration, Instant};
 
@@ -19,8 +20,13 @@ fn each(all: Duration, turns: u32) -> u128 {
 
 /// Sets the question again and again.
 fn set_often<F: Filter>(filter: &mut F, query: &[u16]) -> Result<(), Refusal> {
+    let question = Question {
+        codes: query,
+        m: M,
+        k: K,
+    };
     for _ in 0..SETS {
-        filter.set(query, M, K)?;
+        filter.set(question)?;
     }
     Ok(())
 }

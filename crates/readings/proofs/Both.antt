@@ -6,9 +6,10 @@ use Rattle.trace.specs.declared.file.Header.{Header}
 use Rattle.trace.specs.Told.{Told, only}
 use Rattle.trace.specs.Files.{Head, Trace}
 use Rattle.trace.specs.Reading.{head, counts, codes_over, SamplesOver}
-use Rattle.readings.specs.declared.reading.Refused as the
-use Rattle.readings.specs.declared.reading.Reading.TheVariants.{Read, Refused}
-use Rattle.readings.specs.Readings.{plain, Says}
+use Rattle.trace.specs.declared.refusal.Refusal.{Refusal}
+use Rattle.readings.specs.declared.reading.Unread.TheVariants.{Refused}
+use Rattle.trace.specs.Refusals.{told}
+use Rattle.readings.specs.Readings.{Says}
 
 -- the parts of an answer
 machine_of : Result Head Told → ℕ
@@ -26,32 +27,19 @@ refusal_of (Err e) = e
 no_both : (h : Head) (e : Told) → ◌≡◌ {A = Result Head Told} (Ok h) (Err e) → ⊥
 no_both h e p = let z : ◌≡◌ {A = ℕ} 0 1 = cc in omega arith
 
--- two readings of what there is for equal room have equal headers
-module _ (there : ℕ → Result Trace Told) (m n : ℕ) (even : m ≡ n) (h k : Header) (is : Ok (head h) ≡ counts (there m)) (again : Ok (head k) ≡ counts (there n)) where
-  equal : ◌≡◌ {A = Result Head Told} (Ok (head h)) (Ok (head k))
-  equal = is ∙ ap (λ x. counts (there x)) even ∙ sym again
-
-  pub same_machine : h.machine ≡ k.machine
-  unfolding machine_of
-  same_machine = ap machine_of equal
-
-  pub same_count : h.count ≡ k.count
-  unfolding count_of
-  same_count = ap count_of equal
-
 module _ (code : List ℕ → ℕ) (old new : List ℕ) where
   front : (t : Trace) → new ≡ codes_over code (Ok t) old → take (length t.samples) new ≡ map code t.samples
   front t put = ap (take (length t.samples)) put ∙ take_at (map code t.samples) (drop (length t.samples) old) (length t.samples) (length-map t.samples code)
 
-  pub read_says : (h : Header) (r : Result Trace Told) → Ok (head h) ≡ counts r → new ≡ codes_over code r old → Says code (Read h) r new
+  pub read_says : (h : Header) (r : Result Trace Told) → Ok (head h) ≡ counts r → new ≡ codes_over code r old → Says code (Ok h) r new
   unfolding machine_of count_of
   read_says h (Ok t) is put = (ap machine_of is, ap count_of is, front t put)
   read_says h (Err e) is put = no_both (head h) e is
 
-  pub refused_says : (x : the.Refused) (told : Told) (r : Result Trace Told) → x ≡ plain told → Err told ≡ counts r → Says code (Refused x) r new
+  pub refused_says : (x : Refusal) (r : Result Trace Told) → Err (told x) ≡ counts r → Says code (Err (Refused x)) r new
   unfolding refusal_of
-  refused_says x told (Ok t) by is = no_both _ told (sym is)
-  refused_says x told (Err e) by is = by ∙ ap (λ r. plain (refusal_of r)) is
+  refused_says x (Ok t) is = no_both _ (told x) (sym is)
+  refused_says x (Err e) is = ap refusal_of is
 
   alike_in : {S : Type 0} (fields : S → List ℕ) (olds news : List S) (h : Header) (r : Result Trace Told) → Ok (head h) ≡ counts r → new ≡ codes_over code r old → SamplesOver fields r olds news → map (λ s. code (fields s)) (take h.count news) ≡ take h.count new
   unfolding count_of

@@ -1,4 +1,3 @@
 pub mod Spelling
-pub mod Asking
-pub mod Codes
+pub mod Naming
 pub mod Both

@@ -2,3 +2,4 @@ pub mod Hex
 pub mod Lines
 pub mod Readings
 pub mod Tallies
+pub mod Texts

@@ -1,7 +1,13 @@
 -- Counts of answers. Assumes nothing.
-use Rattle.std.specs.Prelude.{ℕ, ◌+◌, ◌-◌, ◌^◌, min, cond, ◌&&◌, List, replicate, nat_le, slice_index, slice_set}
-use Rattle.readings.specs.declared.reading.Reading.{Reading}
-use Rattle.readings.specs.declared.reading.Reading.TheVariants.{Read, Refused, Differ, Malformed}
+use Rattle.std.specs.Prelude.{ℕ, ◌+◌, ◌-◌, ◌^◌, min, Ok, Err, Result}
+use Rattle.trace.specs.declared.file.Header.{Header}
+use Rattle.trace.specs.declared.refusal.Cause.{Cause}
+use Rattle.trace.specs.declared.refusal.Cause.TheVariants as cause
+use Rattle.trace.specs.declared.refusal.Refusal.{Refusal}
+use Rattle.trace.specs.declared.refusal.Refusal.TheVariants as refusal
+use Rattle.readings.specs.declared.reading.Unread.{Unread}
+use Rattle.readings.specs.declared.reading.Unread.TheVariants.{Refused, Differ, Malformed}
+use Rattle.readings.specs.declared.tally.Causes.{Causes}
 use Rattle.readings.specs.declared.tally.Tally.{Tally}
 
 -- one more, up to the largest number there is
@@ -9,17 +15,22 @@ abbrev pub more : ℕ → ℕ
 more n = min (n + 1) (2 ^ 32 - 1)
 
 abbrev pub none_yet : Tally
-none_yet = record { files = 0; read = 0; refused = 0; causes = replicate 5 0 }
+none_yet = record { files = 0; read = 0; refused = 0; causes = record { ends_inside_number = 0; number_too_long = 0; out_of_range = 0; other_kind = 0; bytes_left_over = 0 } }
 
--- the causes 4 to 8 stand at the places 0 to 4
-abbrev pub raised : List ℕ → ℕ → List ℕ
-raised causes n = cond (nat_le 4 n && nat_le n 8) (slice_set causes (n - 4) (more (slice_index causes (n - 4)))) causes
+abbrev pub raised : Causes → Cause → Causes
+raised c cause.EndsInsideNumber = record c { ends_inside_number = more c.ends_inside_number }
+raised c cause.NumberTooLong = record c { number_too_long = more c.number_too_long }
+raised c cause.OutOfRange = record c { out_of_range = more c.out_of_range }
+raised c cause.OtherKind = record c { other_kind = more c.other_kind }
+raised c cause.BytesLeftOver = record c { bytes_left_over = more c.bytes_left_over }
 
-abbrev pub caused : Tally → ℕ → Tally
-caused t n = record { files = t.files; read = t.read; refused = t.refused; causes = raised t.causes n }
+abbrev pub caused : Tally → Refusal → Tally
+caused t refusal.TooShort = t
+caused t refusal.OutOfRange = record t { causes = raised t.causes cause.OutOfRange }
+caused t (refusal.File f) = record t { causes = raised t.causes f.cause }
 
-abbrev pub counted : Tally → Reading → Tally
-counted t (Read h) = record { files = more t.files; read = more t.read; refused = t.refused; causes = t.causes }
-counted t (Refused r) = record { files = more t.files; read = t.read; refused = more t.refused; causes = raised t.causes r.number }
-counted t Differ = record { files = more t.files; read = t.read; refused = t.refused; causes = t.causes }
-counted t Malformed = record { files = more t.files; read = t.read; refused = t.refused; causes = t.causes }
+abbrev pub counted : Tally → Result Header Unread → Tally
+counted t (Ok h) = record t { files = more t.files; read = more t.read }
+counted t (Err (Refused r)) = record (caused t r) { files = more t.files; refused = more t.refused }
+counted t (Err Differ) = record t { files = more t.files }
+counted t (Err Malformed) = record t { files = more t.files }

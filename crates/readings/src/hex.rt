@@ -1,4 +1,4 @@
-//! Bytes in hex, two digits to a byte, with small letters.
+//! Bytes in hex, two digits to a byte, with small letters only, where the library's `hex` takes capitals too.
 ghost use Rattle.std.specs.Prelude.{◌≡◌, IfOk, vec_items};
 ghost use Rattle.std.specs.Option.{option_map};
 ghost use Rattle.readings.specs.Hex.{digit_value, byte_value, hex_bytes};
@@ -20,10 +20,9 @@ fn digit(letter: u8) -> Option<u8>
 fn byte(high: u8, low: u8) -> Option<u8>
     ensures { result ≡ byte_value high low }
 {
-    match (digit(high), digit(low)) {
-        (Some(high), Some(low)) => Some(high * 16 + low),
-        _ => None,
-    }
+    let high = digit(high)?;
+    let low = digit(low)?;
+    Some(high * 16 + low)
 }
 
 /// The bytes that a text spells, or none where it is not all hex.
@@ -31,17 +30,13 @@ pub fn decode(heap: Global, text: &[u8]) -> Result<Option<Vec<u8>>, AllocError>
     ensures { IfOk result (λ found. option_map vec_items found ≡ hex_bytes text.now) }
 {
     let mut bytes = Vec::new(heap);
-    let mut at = 0;
-    while text.len() - at >= 2 {
-        let Some(next) = byte(text[at], text[at + 1]) else {
+    let mut rest = text;
+    while let [high, low, behind @ ..] = rest {
+        let Some(next) = byte(*high, *low) else {
             return Ok(None);
         };
         bytes.push(next)?;
-        at += 2;
+        rest = behind;
     }
-    if at < text.len() {
-        Ok(None)
-    } else {
-        Ok(Some(bytes))
-    }
+    Ok(if rest.is_empty() { Some(bytes) } else { None })
 }

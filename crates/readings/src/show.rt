@@ -1,6 +1,12 @@
 //! How an answer is printed.
-use crate::reading::Reading;
+ghost use Rattle.std.specs.Prelude.{◌≡◌, Some};
+ghost use Rattle.trace.specs.Refusals.{told};
+ghost use Rattle.readings.specs.Readings.{plain};
+ghost use Rattle.readings.specs.Texts.{unread_text};
+
+use crate::reading::{Reading, Unread};
 use std::fmt;
+use trace::refusal::Refusal;
 
 /// An answer, and the codes at whose front those of a trace stand.
 #[derive(Drop)]
@@ -12,7 +18,7 @@ pub struct Shown<'a> {
 impl fmt::Display for Shown<'_> {
     fn fmt<W: fmt::Write>(&self, f: &mut fmt::Formatter<W>) -> fmt::Result {
         match self.reading {
-            Reading::Read(header) => {
+            Ok(header) => {
                 let machine = header.machine;
                 let count = header.count;
                 write!(f, "ok {machine} {count}")?;
@@ -21,14 +27,34 @@ impl fmt::Display for Shown<'_> {
                 }
                 Ok(())
             }
-            Reading::Refused(refused) => {
-                let number = refused.number;
-                let place = refused.place;
-                let field = refused.field;
+            Err(unread) => write!(f, "{unread}"),
+        }
+    }
+}
+
+impl fmt::Display for Unread {
+    ghost output = { λ unread. Some (unread_text unread) };
+
+    fn fmt<W: fmt::Write>(&self, f: &mut fmt::Formatter<W>) -> fmt::Result {
+        match self {
+            Unread::Refused(refusal) => {
+                let (number, place, field) = numbers(*refusal);
                 write!(f, "refused {number} {place} {field}")
             }
-            Reading::Differ => write!(f, "differ"),
-            Reading::Malformed => write!(f, "malformed"),
+            Unread::Differ => f.write_str("differ"),
+            Unread::Malformed => f.write_str("malformed"),
         }
+    }
+}
+
+/// A refusal by its numbers: its own, the place and the field. One that is no file's has neither place nor field, and
+/// 0 stands for them.
+fn numbers(refusal: Refusal) -> (u8, usize, u8)
+    ensures { result ≡ plain (told refusal) }
+{
+    let number = refusal.number();
+    match refusal {
+        Refusal::File(fault) => (number, fault.place, fault.field.number()),
+        Refusal::TooShort | Refusal::OutOfRange => (number, 0, 0),
     }
 }

@@ -1,10 +1,12 @@
 //! The cases that are tried.
-ghost use Rattle.std.specs.Prelude.{IfOk};
+ghost use Rattle.filters.specs.Asked.{asked};
+ghost use Rattle.std.specs.Prelude.{◌≡◌, IfOk};
 ghost use Rattle.trials.specs.Cases.{Small};
 
-use crate::draws::Draws;
 use crate::planting::plant;
 use crate::refused::RefusedQuestion;
+use draws::Draws;
+use filters::question::Question;
 use std::alloc::{AllocError, Global};
 
 /// The most codes of a query: few, so that a case is tried in no time, and enough that windows begin all over it.
@@ -36,6 +38,7 @@ pub struct Case {
 
 impl Case {
     /// Draws the case of a number, with codes of an alphabet.
+    // The alphabet beside the draws, and not of them: one run of draws goes through all alphabets.
     pub fn draw(
         heap: Global,
         draws: &mut Draws,
@@ -53,11 +56,7 @@ impl Case {
         }
         let m = draws.between(1, q.min(LONGEST_WINDOW));
         let k = draws.up_to(m - 1);
-        let refused = if number % REFUSED == 0 {
-            Some(RefusedQuestion::draw(draws, q, m))
-        } else {
-            None
-        };
+        let refused = (number % REFUSED == 0).then(|| RefusedQuestion::draw(draws, q, m));
         Ok(Case {
             number,
             query,
@@ -66,5 +65,16 @@ impl Case {
             k,
             refused,
         })
+    }
+
+    /// The question that no filter refuses.
+    pub fn question(&self) -> Question<'_>
+        ensures { asked result ≡ record { codes = self.now.query.items; m = self.now.m; k = self.now.k } }
+    {
+        Question {
+            codes: self.query.as_slice(),
+            m: self.m,
+            k: self.k,
+        }
     }
 }

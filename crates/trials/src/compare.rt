@@ -6,19 +6,11 @@ use crate::difference::{Difference, Fault};
 use crate::passed::count_passed;
 use crate::refused::RefusedQuestion;
 use filters::filter::Filter;
+use filters::question::Question;
 use search::matches::{Found, Match};
-use search::question::Question;
 use search::scan::scan;
 use std::alloc::Global;
 use trace::pulse::Pulse;
-
-/// What stands in a list before it is written: no match of any case, since they are numbered from 1.
-const UNWRITTEN: Match = Match {
-    accession: 0,
-    trace: 0,
-    query: 0,
-    mismatches: 0,
-};
 
 /// Sets the question of a case and compares all that the filter then answers, up to the first difference.
 pub fn compare<F: Filter>(
@@ -27,7 +19,7 @@ pub fn compare<F: Filter>(
     case: &Case,
     expected: &[Match],
 ) -> Result<(), Fault> {
-    let set = filter.set(case.query.as_slice(), case.m, case.k);
+    let set = filter.set(case.question());
     expect(set == Ok(()), Difference::Set)?;
     let counted = scan_case(heap, filter, case, &mut [])?;
     expect(counted.pairs == expected.len(), Difference::Count)?;
@@ -49,7 +41,8 @@ fn compare_list<F: Filter>(
     expected: &[Match],
     counted: Found,
 ) -> Result<(), Fault> {
-    let mut list = vec![in heap; UNWRITTEN; counted.pairs]?;
+    // No match of a case is Match::NONE, since cases are numbered from 1.
+    let mut list = vec![in heap; Match::NONE; counted.pairs]?;
     let listed = scan_case(heap, filter, case, list.as_mut_slice())?;
     expect(listed == counted, Difference::Count)?;
     expect(list.as_slice() == expected, Difference::List)?;
@@ -72,7 +65,11 @@ fn refuse<F: Filter>(
 ) -> Result<(), Difference> {
     let len = filter.len();
     let reach = filter.reach();
-    let answer = filter.set(case.query.as_slice(), question.m, question.k);
+    let answer = filter.set(Question {
+        codes: case.query.as_slice(),
+        m: question.m,
+        k: question.k,
+    });
     expect(answer == Err(question.refusal), Difference::Refusal)?;
     expect(
         filter.len() == len && filter.reach() == reach,
@@ -88,23 +85,17 @@ fn scan_case<F: Filter>(
     out: &mut [Match],
 ) -> Result<Found, Fault> {
     let mut marks = vec![in heap; 0u8; case.query.len()]?;
-    let question = Question {
-        codes: case.query.as_slice(),
-        m: case.m,
-        k: case.k,
-    };
     let trace = case.trace.as_slice();
-    match scan::<Pulse, F>(
+    let found = scan::<Pulse, F>(
         filter,
-        question,
+        case.question(),
         trace,
         case.number,
         marks.as_mut_slice(),
         out,
-    ) {
-        Ok(found) => Ok(found),
-        Err(_) => Err(Fault::Differs(Difference::Scan)),
-    }
+    )
+    .map_err(|_| Difference::Scan)?;
+    Ok(found)
 }
 
 /// Goes on where a fact holds.

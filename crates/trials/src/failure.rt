@@ -4,6 +4,7 @@ use std::io;
 use std::num::TryFromIntError;
 
 /// Why trying ended early.
+// The crate pace has the like with another first cause: what both need of a crate below them would be two conversions.
 #[derive(Debug, Drop)]
 pub enum Failure {
     /// A place of a case does not fit a match.

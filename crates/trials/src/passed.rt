@@ -7,19 +7,14 @@ const PAST_ENDS: usize = 2;
 
 /// How many places `passes` says are passed.
 pub fn count_passed<F: Filter>(filter: &F, case: &Case) -> usize {
-    let mut count = 0usize;
-    for j in 0..case.trace.len().saturating_add(PAST_ENDS) {
-        count = count.saturating_add(count_row(filter, case, j));
-    }
-    count
+    let rows = case.trace.len().saturating_add(PAST_ENDS);
+    (0..rows).fold(0, |count: usize, j| {
+        count.saturating_add(count_row(filter, case, j))
+    })
 }
 
 fn count_row<F: Filter>(filter: &F, case: &Case, j: usize) -> usize {
-    let mut count = 0usize;
-    for i in 0..case.query.len().saturating_add(PAST_ENDS) {
-        if filter.passes(case.trace.as_slice(), i, j) {
-            count = count.saturating_add(1);
-        }
-    }
-    count
+    let trace = case.trace.as_slice();
+    let places = case.query.len().saturating_add(PAST_ENDS);
+    (0..places).filter(|i| filter.passes(trace, *i, j)).count()
 }

@@ -1,5 +1,5 @@
 //! Matches made on purpose.
-use crate::draws::Draws;
+use draws::Draws;
 
 /// The most codes that are drawn anew in a planted stretch: with none it matches whole, and with more it seldom would.
 const MOST_CHANGES: usize = 3;
@@ -14,14 +14,8 @@ pub fn plant(draws: &mut Draws, alphabet: u16, query: &[u16], trace: &mut [u16])
     let from = draws.up_to(query.len() - len);
     let to = draws.up_to(trace.len() - len);
     let stretch = &mut trace[to..to + len];
-    copy(&query[from..from + len], stretch);
+    stretch.copy_from_slice(&query[from..from + len]);
     change(draws, alphabet, stretch);
-}
-
-fn copy(from: &[u16], to: &mut [u16]) {
-    for (code, place) in from.iter().zip(to.iter_mut()) {
-        *place = *code;
-    }
 }
 
 /// Draws a few codes of a stretch anew.

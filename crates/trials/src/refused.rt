@@ -2,7 +2,7 @@
 ghost use Rattle.std.specs.Prelude.{◌≡◌, ◌<◌, ◌≤◌, Err};
 ghost use Rattle.filters.specs.Filters.{verdict};
 
-use crate::draws::Draws;
+use draws::Draws;
 use filters::refusal::Refusal;
 
 /// How far a number lies past the first that is refused, at most.

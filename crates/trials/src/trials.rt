@@ -1,11 +1,13 @@
 //! Cases drawn and tried one after another.
 use crate::cases::Case;
-use crate::difference::{Difference, Fault};
-use crate::draws::Draws;
+use crate::compare::compare;
+use crate::difference::Fault;
 use crate::failure::Failure;
-use crate::filter_set::{Filters, KINDS, Kind};
+use crate::filter_set::Filters;
 use crate::naive::all_matches;
 use crate::tally::Tally;
+use draws::Draws;
+use filters::filter::Filter;
 use search::matches::Match;
 
 /// The cases of each alphabet: many, and yet all are tried within a few seconds.
@@ -25,39 +27,40 @@ pub fn try_cases(
         let case = Case::draw(rt.alloc(), draws, number, alphabet)?;
         let expected = all_matches(rt.alloc(), &case)?;
         tally.count(expected.len(), case.refused.is_some());
-        try_case(rt, filters, &case, expected.as_slice(), &mut tally)?;
+        let mut trial = Trial {
+            rt,
+            case: &case,
+            expected: expected.as_slice(),
+            differ: 0,
+        };
+        filters.run(&mut trial)?;
+        tally.differ = tally.differ.saturating_add(trial.differ);
     }
     Ok(tally)
 }
 
-/// Tries a case with every filter.
-fn try_case(
-    rt: &HostRuntime,
-    filters: &mut Filters,
-    case: &Case,
-    expected: &[Match],
-    tally: &mut Tally,
-) -> Result<(), Failure> {
-    for kind in KINDS {
-        match filters.compare(rt.alloc(), kind, case, expected) {
-            Ok(()) => {}
-            Err(Fault::Differs(difference)) => {
-                tally.differ = tally.differ.saturating_add(1);
-                print_difference(rt, case, kind, difference)?;
-            }
-            Err(Fault::Memory(error)) => return Err(error.into()),
-        }
-    }
-    Ok(())
+/// A case that is tried with one filter after another.
+#[derive(Drop)]
+pub struct Trial<'a> {
+    rt: &'a HostRuntime,
+    case: &'a Case,
+    expected: &'a [Match],
+    /// How many filters answer otherwise than expected.
+    differ: u32,
 }
 
-fn print_difference(
-    rt: &HostRuntime,
-    case: &Case,
-    kind: Kind,
-    difference: Difference,
-) -> Result<(), Failure> {
-    let number = case.number;
-    println!(rt; "case {number}, filter {kind}: {difference}")?;
-    Ok(())
+impl Trial<'_> {
+    /// Tries the case with a filter, and prints how it answers otherwise than expected, if it does.
+    pub fn run<F: Filter>(&mut self, name: &str, filter: &mut F) -> Result<(), Failure> {
+        match compare(self.rt.alloc(), filter, self.case, self.expected) {
+            Ok(()) => Ok(()),
+            Err(Fault::Differs(difference)) => {
+                self.differ = self.differ.saturating_add(1);
+                let number = self.case.number;
+                println!(self.rt; "case {number}, filter {name}: {difference}")?;
+                Ok(())
+            }
+            Err(Fault::Memory(error)) => Err(error.into()),
+        }
+    }
 }
