@@ -8,10 +8,12 @@ use catalog::refusal::Refusal;
 use filters::continuous::Continuous;
 use filters::filter::Filter;
 use filters::gapped::Gapped;
+use filters::held::MOST_CODES;
 use filters::near::Near;
 use filters::pass_all::PassAll;
 use search::matches::Match;
 use std::test::Fail;
+use trace::file::MOST_SAMPLES;
 use trace::pulse::Pulse;
 use trace::sample::{Sample, blank};
 
@@ -23,14 +25,6 @@ const CHANGED: [u8; 11] = [1, 8, 8, 9, 1, 2, 7, 4, 5, 6, 9];
 const PADDED: [u8; 13] = [1, 7, 0x86, 0x80, 0, 0x81, 0x80, 0, 2, 3, 4, 5, 6];
 /// Four equal pulses.
 const FOUR_FIVES: [u8; 7] = [1, 1, 4, 5, 5, 5, 5];
-
-/// No match.
-const NONE: Match = Match {
-    accession: 0,
-    trace: 0,
-    query: 0,
-    mismatches: 0,
-};
 
 fn at(accession: u32, trace: u16, query: u16, mismatches: u16) -> Match {
     Match {
@@ -47,13 +41,11 @@ fn opened<F: Filter>(
     store: &[Pulse],
     list: &mut [Match],
 ) -> Result<Collection<Pulse, F>, Refusal> {
-    match Collection::open(filter, mark, store, list) {
-        Ok(collection) => Ok(collection),
-        Err(Declined { refusal, back: _ }) => Err(refusal),
-    }
+    Collection::open(filter, mark, store, list).map_err(|Declined { refusal, back: _ }| refusal)
 }
 
-/// Puts a question. The buffers are the wrapper's own, and it promises nothing, so that a test that makes many calls stays cheap to prove.
+/// Puts a question. The buffers are this function's own, and it promises nothing, so that a test that makes many calls stays
+/// cheap to prove.
 fn put<F: Filter>(
     c: &mut Collection<Pulse, F>,
     file: &[u8],
@@ -62,7 +54,15 @@ fn put<F: Filter>(
     store: &[Pulse],
     list: &mut [Match],
 ) -> Result<(), Refusal> {
-    c.ask(file, m, k, store, list, &mut [0u16; 4096], &mut [0u8; 1024])
+    c.ask(
+        file,
+        m,
+        k,
+        store,
+        list,
+        &mut [0u16; MOST_SAMPLES],
+        &mut [0u8; MOST_CODES],
+    )
 }
 
 /// Takes a trace in.
@@ -72,7 +72,13 @@ fn bring<F: Filter>(
     store: &mut [Pulse],
     list: &mut [Match],
 ) -> Result<u32, Refusal> {
-    c.accession(file, store, list, &mut [0u16; 4096], &mut [0u8; 1024])
+    c.accession(
+        file,
+        store,
+        list,
+        &mut [0u16; MOST_SAMPLES],
+        &mut [0u8; MOST_CODES],
+    )
 }
 
 /// Takes a trace out.
@@ -82,7 +88,13 @@ fn take_out<F: Filter>(
     store: &mut [Pulse],
     list: &mut [Match],
 ) -> Result<(), Refusal> {
-    c.withdraw(number, store, list, &[0u16; 4096], &[0u8; 1024])
+    c.withdraw(
+        number,
+        store,
+        list,
+        &[0u16; MOST_SAMPLES],
+        &[0u8; MOST_CODES],
+    )
 }
 
 /// Gives a slip back; where that is refused the slip is written off.
@@ -99,13 +111,13 @@ fn given_back<F: Filter>(collection: &mut Collection<Pulse, F>, slip: Slip) -> R
 #[test]
 fn finds_a_changed_window(rt: HostRuntime) -> Result<(), Fail> {
     let mut store = [blank::<Pulse>(); 8];
-    let mut list = [NONE; 2];
+    let mut list = [Match::NONE; 2];
     let filter = Near::new(Continuous::new(), Gapped::new());
     let mut c = opened(filter, 1, &store, &mut list)?;
     put(&mut c, &QUERY, 6, 1, &store, &mut list)?;
     assert_eq!(rt; bring(&mut c, &CHANGED, &mut store, &mut list), Ok(1));
     assert_eq!(rt; list[0], at(1, 1, 0, 1));
-    assert_eq!(rt; list[1], NONE);
+    assert_eq!(rt; list[1], Match::NONE);
     assert_eq!(rt;
         c.report(),
         Report {
@@ -122,7 +134,7 @@ fn finds_a_changed_window(rt: HostRuntime) -> Result<(), Fail> {
 #[test]
 fn lists_six_pairs_of_fives(rt: HostRuntime) -> Result<(), Fail> {
     let mut store = [blank::<Pulse>(); 4];
-    let mut list = [NONE; 6];
+    let mut list = [Match::NONE; 6];
     let mut c = opened(Continuous::new(), 1, &store, &mut list)?;
     bring(&mut c, &FOUR_FIVES, &mut store, &mut list)?;
     put(&mut c, &three_fives(), 2, 0, &store, &mut list)?;
@@ -136,14 +148,14 @@ fn lists_six_pairs_of_fives(rt: HostRuntime) -> Result<(), Fail> {
 #[test]
 fn refuses_a_question_with_more_pairs_than_room(rt: HostRuntime) -> Result<(), Fail> {
     let mut store = [blank::<Pulse>(); 4];
-    let mut list = [NONE; 5];
+    let mut list = [Match::NONE; 5];
     let mut c = opened(Continuous::new(), 1, &store, &mut list)?;
     bring(&mut c, &FOUR_FIVES, &mut store, &mut list)?;
     assert_eq!(rt;
         put(&mut c, &three_fives(), 2, 0, &store, &mut list),
         Err(Refusal::ListFull)
     );
-    assert_eq!(rt; list[0], NONE);
+    assert_eq!(rt; list[0], Match::NONE);
     assert_eq!(rt; c.report().pairs, 0);
     Ok(())
 }
@@ -151,7 +163,7 @@ fn refuses_a_question_with_more_pairs_than_room(rt: HostRuntime) -> Result<(), F
 #[test]
 fn padding_makes_no_difference(rt: HostRuntime) -> Result<(), Fail> {
     let mut store = [blank::<Pulse>(); 12];
-    let mut list = [NONE; 4];
+    let mut list = [Match::NONE; 4];
     let mut c = opened(PassAll::new(), 1, &store, &mut list)?;
     put(&mut c, &QUERY, 6, 0, &store, &mut list)?;
     bring(&mut c, &QUERY, &mut store, &mut list)?;
@@ -165,14 +177,14 @@ fn padding_makes_no_difference(rt: HostRuntime) -> Result<(), Fail> {
 #[test]
 fn withdrawal_closes_the_gaps(rt: HostRuntime) -> Result<(), Fail> {
     let mut store = [blank::<Pulse>(); 14];
-    let mut list = [NONE; 4];
+    let mut list = [Match::NONE; 4];
     let mut c = opened(PassAll::new(), 1, &store, &mut list)?;
     put(&mut c, &QUERY, 6, 1, &store, &mut list)?;
     bring(&mut c, &CHANGED, &mut store, &mut list)?;
     bring(&mut c, &QUERY, &mut store, &mut list)?;
     take_out(&mut c, 1, &mut store, &mut list)?;
     assert_eq!(rt; list[0], at(2, 0, 0, 0));
-    assert_eq!(rt; list[1], NONE);
+    assert_eq!(rt; list[1], Match::NONE);
     assert_eq!(rt; store[0].code(), 1);
     assert_eq!(rt; c.report().samples, 6);
     assert_eq!(rt;
@@ -185,7 +197,7 @@ fn withdrawal_closes_the_gaps(rt: HostRuntime) -> Result<(), Fail> {
 #[test]
 fn lends_and_takes_back(rt: HostRuntime) -> Result<(), Fail> {
     let mut store = [blank::<Pulse>(); 6];
-    let mut list = [NONE; 1];
+    let mut list = [Match::NONE; 1];
     let mut other = opened(PassAll::new(), 2, &store, &mut list)?;
     let mut c = opened(PassAll::new(), 1, &store, &mut list)?;
     bring(&mut c, &QUERY, &mut store, &mut list)?;
@@ -204,8 +216,8 @@ fn lends_and_takes_back(rt: HostRuntime) -> Result<(), Fail> {
 #[test]
 fn refuses_other_memory(rt: HostRuntime) -> Result<(), Fail> {
     let mut store = [blank::<Pulse>(); 6];
-    let mut list = [NONE; 1];
-    let mut codes = [0u16; 4096];
+    let mut list = [Match::NONE; 1];
+    let mut codes = [0u16; MOST_SAMPLES];
     let mut marks = [0u8; 1023];
     let mut c = opened(PassAll::new(), 1, &store, &mut list)?;
     assert_eq!(rt;

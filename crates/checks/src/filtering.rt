@@ -7,6 +7,7 @@ use filters::gapped::Gapped;
 use filters::near::Near;
 use filters::number::tuple_numbers;
 use filters::pass_all::PassAll;
+use filters::question::Question;
 use filters::refusal::Refusal;
 use trace::pulse::Pulse;
 
@@ -15,6 +16,11 @@ const SIX: [u16; 6] = [1, 2, 3, 4, 5, 6];
 /// A trace whose second code differs from the query's.
 const SHIFTED: [u16; 6] = [1, 7, 3, 4, 5, 6];
 
+/// A question of these codes.
+fn question(codes: &[u16], m: usize, k: usize) -> Question<'_> {
+    Question { codes, m, k }
+}
+
 /// The places that a filter passes on a trace, row by row.
 fn places<F: Filter>(filter: &F, trace: &[u16]) -> Result<usize, Refusal> {
     rows(filter, trace, &mut [0u8; 1024])
@@ -22,6 +28,7 @@ fn places<F: Filter>(filter: &F, trace: &[u16]) -> Result<usize, Refusal> {
 
 fn rows<F: Filter>(filter: &F, trace: &[u16], marks: &mut [u8]) -> Result<usize, Refusal> {
     let mut total = 0usize;
+    // By place: j is what a row is marked for.
     for j in 0..trace.len() {
         total = total.saturating_add(filter.mark_row(trace, j, marks)?);
     }
@@ -30,7 +37,7 @@ fn rows<F: Filter>(filter: &F, trace: &[u16], marks: &mut [u8]) -> Result<usize,
 
 /// The places that a filter passes once it is set for windows of six codes with one mismatch.
 fn places_for_six<F: Filter>(mut filter: F, trace: &[u16]) -> Result<usize, Refusal> {
-    filter.set(&SIX, 6, 1)?;
+    filter.set(question(&SIX, 6, 1))?;
     places(&filter, trace)
 }
 
@@ -95,10 +102,16 @@ fn passes_nothing_with_no_question(rt: HostRuntime) {
 fn refuses_questions_in_order(rt: HostRuntime) {
     let long = [0u16; 1025];
     let mut filter = Continuous::new();
-    assert_eq!(rt; filter.set(&SIX, 6, 1), Ok(()));
-    assert_eq!(rt; filter.set(&long, 0, 99), Err(Refusal::QueryTooLong));
-    assert_eq!(rt; filter.set(&SIX, 7, 99), Err(Refusal::BadLength));
-    assert_eq!(rt; filter.set(&SIX, 6, 6), Err(Refusal::BadMismatches));
+    assert_eq!(rt; filter.set(question(&SIX, 6, 1)), Ok(()));
+    assert_eq!(rt;
+        filter.set(question(&long, 0, 99)),
+        Err(Refusal::QueryTooLong)
+    );
+    assert_eq!(rt; filter.set(question(&SIX, 7, 99)), Err(Refusal::BadLength));
+    assert_eq!(rt;
+        filter.set(question(&SIX, 6, 6)),
+        Err(Refusal::BadMismatches)
+    );
     assert!(rt; filter.len() == 6 && filter.reach() == 3);
     assert_eq!(rt; places(&filter, &SHIFTED), Ok(2));
 }
@@ -106,7 +119,7 @@ fn refuses_questions_in_order(rt: HostRuntime) {
 #[test]
 fn refuses_too_few_marks(rt: HostRuntime) {
     let mut filter = PassAll::new();
-    assert_eq!(rt; filter.set(&SIX, 6, 1), Ok(()));
+    assert_eq!(rt; filter.set(question(&SIX, 6, 1)), Ok(()));
     let mut marks = [3u8; 5];
     assert_eq!(rt;
         filter.mark_row(&SHIFTED, 0, &mut marks),

@@ -4,21 +4,13 @@ use filters::examples::changed_codes;
 use filters::filter::Filter;
 use filters::gapped::Gapped;
 use filters::near::Near;
+use filters::question::Question;
 use search::examples::four_fives;
 use search::matches::{Found, Match};
-use search::question::Question;
 use search::refusal::Refusal;
 use search::scan::scan;
 use std::test::Fail;
 use trace::pulse::Pulse;
-
-/// No match.
-const NONE: Match = Match {
-    accession: 0,
-    trace: 0,
-    query: 0,
-    mismatches: 0,
-};
 
 /// A match on the trace with the accession number 1.
 fn at(trace: u16, query: u16, mismatches: u16) -> Match {
@@ -38,8 +30,8 @@ fn finds_a_changed_window(rt: HostRuntime) -> Result<(), Fail> {
         k: 1,
     };
     let mut filter = Near::new(Continuous::new(), Gapped::new());
-    filter.set(question.codes, question.m, question.k)?;
-    let mut out = [NONE; 1];
+    filter.set(question)?;
+    let mut out = [Match::NONE; 1];
     let found = scan::<Pulse, _>(
         &filter,
         question,
@@ -67,8 +59,8 @@ fn lists_all_pairs_of_equal_codes(rt: HostRuntime) -> Result<(), Fail> {
         k: 0,
     };
     let mut filter = Continuous::new();
-    filter.set(question.codes, question.m, question.k)?;
-    let mut out = [NONE; 6];
+    filter.set(question)?;
+    let mut out = [Match::NONE; 6];
     let found = scan::<Pulse, _>(&filter, question, &four_fives(), 1, &mut [0u8; 3], &mut out);
     assert_eq!(rt;
         found,
@@ -98,7 +90,7 @@ fn refuses_what_does_not_fit(rt: HostRuntime) -> Result<(), Fail> {
         scan::<Pulse, _>(&filter, question, &trace, 1, &mut marks, &mut []),
         Err(Refusal::OtherQuery)
     );
-    filter.set(question.codes, question.m, question.k)?;
+    filter.set(question)?;
     assert_eq!(rt;
         scan::<Pulse, _>(&filter, question, &trace, 1, &mut marks, &mut []),
         Err(Refusal::MarksTooShort)
