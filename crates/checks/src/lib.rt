@@ -6,6 +6,8 @@ mod collecting;
 #[cfg(test)]
 mod filtering;
 #[cfg(test)]
+mod printing;
+#[cfg(test)]
 mod searching;
 #[cfg(test)]
 mod trace_files;
