@@ -18,6 +18,10 @@ struct Costs<'a> {
 }
 
 impl Visitor for Costs<'_> {
+    ghost use Rattle.std.specs.Prelude.{⊤};
+
+    ghost done = { λ _. ⊤ };
+
     fn visit<F: Filter>(&self, filter_name: &str, mut filter: F) -> Result<(), Failure> {
         let rt = self.rt;
         let input_name = self.input.name;

@@ -24,6 +24,10 @@ struct Growths<'a> {
 }
 
 impl Visitor for Growths<'_> {
+    ghost use Rattle.std.specs.Prelude.{⊤};
+
+    ghost done = { λ _. ⊤ };
+
     fn visit<F: Filter>(&self, name: &str, mut filter: F) -> Result<(), Failure> {
         let rt = self.rt;
         let mut draws = Draws::new(SEED);

@@ -1,4 +1,6 @@
 //! The filters that are tried.
+ghost use Rattle.std.specs.Prelude.{◌+◌, ◌≤◌};
+
 use crate::failure::Failure;
 use crate::trials::Trial;
 use filters::continuous::Continuous;
@@ -39,7 +41,9 @@ impl Filters {
     }
 
     /// Runs a trial with every filter in turn.
-    pub fn run(&mut self, trial: &mut Trial) -> Result<(), Failure> {
+    pub fn run(&mut self, trial: &mut Trial) -> Result<(), Failure>
+        ensures { (trial.old.differ ≤ trial.new.differ) × (trial.new.differ ≤ trial.old.differ + 7) }
+    {
         trial.run("PassAll", &mut self.pass_all)?;
         trial.run("Continuous", &mut self.continuous)?;
         trial.run("Gapped", &mut self.gapped)?;

@@ -1,4 +1,6 @@
 //! Cases drawn and tried one after another.
+ghost use Rattle.std.specs.Prelude.{◌+◌, ◌≤◌};
+
 use crate::cases::Case;
 use crate::compare::compare;
 use crate::difference::Fault;
@@ -51,7 +53,9 @@ pub struct Trial<'a> {
 
 impl Trial<'_> {
     /// Tries the case with a filter, and prints how it answers otherwise than expected, if it does.
-    pub fn run<F: Filter>(&mut self, name: &str, filter: &mut F) -> Result<(), Failure> {
+    pub fn run<F: Filter>(&mut self, name: &str, filter: &mut F) -> Result<(), Failure>
+        ensures { (self.old.differ ≤ self.new.differ) × (self.new.differ ≤ self.old.differ + 1) }
+    {
         match compare(self.rt.alloc(), filter, self.case, self.expected) {
             Ok(()) => Ok(()),
             Err(Fault::Differs(difference)) => {
