@@ -35,6 +35,15 @@ pub trait Sample: Copy {
 
     ghost kind: { Kind Self };
 
+    /// The largest value of a field, counted from 0; past the last field it is 0.
+    // Beside the constant, which has four entries and so cannot be asked for every field.
+    fn top(field: usize) -> u16
+        ensures { result ≡ slice_index kind.tops field }
+    {
+        let tops = Self::TOPS;
+        if field < MOST_FIELDS { tops[field] } else { 0 }
+    }
+
     /// The sample with these fields; numbers past the fields are ignored.
     fn make(fields: [u16; MOST_FIELDS]) -> Result<Self, Refusal>
         ensures { answer kind.fields told result ≡ made kind.tops fields };
