@@ -42,7 +42,9 @@ impl<A: Filter, B: Filter> Near<A, B> {
         requires { (i < 1024) × (j < length trace.now) }
         ensures { result ≡ ahead ((B.stands self.now.second).marks trace.now) (B.stands self.now.second).span i j }
     {
-        (0..self.second.reach() + 1).any(|d| self.second.passes(trace, i + d, j + d))
+        // Past the trace's end no place is passed, so none is asked for there.
+        let most = self.second.reach().min(trace.len() - j - 1);
+        (0..most + 1).any(|d| self.second.passes(trace, i + d, j + d))
     }
 
     /// Whether the second passes a place from (i, j) up to the first's reach behind.
@@ -105,11 +107,14 @@ impl<A: Filter, B: Filter> Filter for Near<A, B> {
         }
         let q = self.first.len();
         let mut n = 0;
-        // As in `Filter::mark_row`, with a test of its own: shared, three lines would take a closure of two arguments.
+        // As in `Filter::mark_row`, with a test of its own: shared, three lines would take a closure of two arguments. Only
+        // where the first passes is anything written: most marks are 0, and a row goes over all of them.
         for (i, mark) in marks[..q].iter_mut().enumerate() {
-            let passed = *mark == 1 && self.passes_beside(trace, i, j);
-            *mark = u8::from(passed);
-            n += usize::from(passed);
+            if *mark == 1 {
+                let passed = self.passes_beside(trace, i, j);
+                *mark = u8::from(passed);
+                n += usize::from(passed);
+            }
         }
         Ok(n)
     }
