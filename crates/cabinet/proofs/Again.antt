@@ -3,7 +3,6 @@ use Rattle.std.proofs.Common.{◌≡◌, ℕ, zero, suc, ◌<◌, ◌≤◌, Boo
 use Rattle.trace.specs.Told.{Told}
 use Rattle.trace.specs.Kinds.{Kind}
 use Rattle.trace.specs.Files as file
-use Rattle.filters.specs.declared.filter.Filter.{Ghosts}
 use Rattle.filters.specs.declared.refusal.Refusal as filter
 use Rattle.filters.specs.declared.refusal.Refusal.TheVariants.{QueryTooLong, BadLength}
 use Rattle.filters.specs.Filters.{Rule, Reach, Pattern, verdict}
@@ -82,7 +81,7 @@ module _ {S : Type 0} (K : Kind S) (o : Opening) (s : State) (m k n : ℕ) where
   ask_some l f w = unless_some (wrong o.store o.list l) 3 (by_file (read K f) (pose K o s m k)) (file_some (read K f)) w
 
 -- every pair of places that was listed is listed again
-pub again : {S F : Type 0} {gs : Ghosts F} {K : Kind S} {rule : Rule} {reach : Reach} {stands : F → Pattern} {o : Opening} {h : List Call} {c c' : Collection S F gs} {store store' : List S} {list list' : List Match} (l : Lengths) (f : List ℕ) (m k n : ℕ) →
+pub again : {S F : Type 0} {K : Kind S} {rule : Rule} {reach : Reach} {stands : F → Pattern} {o : Opening} {h : List Call} {c c' : Collection S F} {store store' : List S} {list list' : List Match} (l : Lengths) (f : List ℕ) (m k n : ℕ) →
     After K rule reach stands o h c store list → After K rule reach stands o (ask l f m k ∷ h) c' store' list' → Answers (Ok n) (outcome K o (after K o h) (ask l f m k)) →
     codes_in K (read K f) ≡ (after K o h).asked.codes → m ≤ (after K o h).asked.m → (after K o h).asked.k ≤ k →
     (e : ℕ) → e < pairs_in (standing c.catalog) →

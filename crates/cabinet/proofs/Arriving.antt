@@ -1,5 +1,5 @@
 -- A trace comes in: what its checks answer, and what then stands.
-use Rattle.std.proofs.Common.{◌≡◌, ℕ, suc, ◌+◌, ◌-◌, ◌≤◌, Bool, true, false, cond, ltb, leb, List, [], ◌∷◌, ◌++◌, map, length, take, drop, Ok, Err, Result, sym, refl, ap, ◌∙◌, arith}
+use Rattle.std.proofs.Common.{◌≡◌, ℕ, suc, ◌+◌, ◌-◌, ◌≤◌, Bool, true, false, cond, ltb, leb, List, [], ◌∷◌, ◌++◌, map, length, take, drop, Ok, Err, Result, sym, refl, ap, ◌∙◌, subst, arith}
 use borrow.Rule.Slice.PartMut.{put_mid}
 use Rattle.std.proofs.lemmas.List.{length-append, length-take-le, length-drop, take_at, take_all, drop_at, drop-drop, map_push, flat_map_more}
 use Rattle.std.proofs.lemmas.List.Sums.{sum_by_push}
@@ -7,8 +7,8 @@ use Rattle.std.proofs.lemmas.Bool.{le-ltb, ltb-false}
 use Rattle.trace.specs.Told.{Told}
 use Rattle.trace.specs.Kinds.{Kind}
 use Rattle.trace.specs.Files as file
-use Rattle.filters.specs.declared.filter.Filter.{Ghosts}
-use Rattle.filters.specs.Filters.{Rule, Reach, Pattern}
+use Rattle.filters.specs.Asking.{question_of}
+use Rattle.filters.specs.Filters.{Rule, Reach, Pattern, StandsFor}
 use Rattle.filters.specs.Matching.{Question, pairs}
 use Rattle.search.specs.declared.matches.Match.{Match}
 use Rattle.search.specs.Listing.{match_list, back_in}
@@ -25,7 +25,7 @@ use Rattle.catalog.specs.Catalogs.{standing, admitted, new_row, Pushed}
 use Rattle.cabinet.specs.declared.collection.Collection.{Collection}
 use Rattle.cabinet.specs.Model.{Opening, Lengths, Trace, State, Outcome, accepted, refused, unless, outcome, accession, read, shelve, codes_of, pairs_of, wrong}
 use Rattle.cabinet.specs.Words.{all_matches, padded}
-use Rattle.cabinet.specs.Searching.{count_in}
+use Rattle.cabinet.specs.Searching.{count_in, SearchedThrough}
 use Rattle.cabinet.specs.Shelf.{trace_of, traces_of, row_of}
 use Rattle.cabinet.specs.Promise.{Holds}
 use Rattle.cabinet.proofs.Shelving.{traces_push, traces_front}
@@ -104,7 +104,13 @@ part_written fields xs store part at h l e =
       ap (λ (ys : List _). map fields (take (length xs) ys)) d ∙ ap (map fields) (t ∙ sym p) ∙ e,
     )
 
-module _ {S F : Type 0} {gs : Ghosts F} {K : Kind S} {rule : Rule} {reach : Reach} {meaning : F → Pattern} {o : Opening} {s : State} {c : Collection S F gs} {store : List S} {list : List Match} (w : Holds K rule reach meaning o s c store list) where
+-- a search whose filter stands for the question lists its matches, whatever it answers
+pub listed_through : (agree : ℕ → ℕ → Bool) (rule : Rule) (reach : Reach) (p : Pattern) (a : Question) (t : List ℕ) (marks number : ℕ) (before behind : List Match) (r : Result Count Refusal) →
+    SearchedThrough agree rule reach p a t marks number before behind r → StandsFor rule reach p a → 1024 ≤ marks → behind ≡ back_in before (match_list number agree a t)
+listed_through agree rule reach p a t marks number before behind (Ok n) s st l = (s st).listed
+listed_through agree rule reach p a t marks number before behind (Err e) s st l = absurd (s.1 st l)
+
+module _ {S F : Type 0} {K : Kind S} {rule : Rule} {reach : Reach} {meaning : F → Pattern} {o : Opening} {s : State} {c : Collection S F} {store : List S} {list : List Match} (w : Holds K rule reach meaning o s c store list) where
   abbrev here : List Row
   here = standing c.catalog
 
@@ -145,12 +151,16 @@ module _ {S F : Type 0} {gs : Ghosts F} {K : Kind S} {rule : Rule} {reach : Reac
       pub arrive_met : (m : ℕ) → admitted here c.catalog.given c.catalog.store c.catalog.list (length t.samples) n ≡ Ok m → outcome K o s (accession l f) ≡ accepted m (record { given = m; traces = s.traces ++ (arrived m ∷ []); asked = s.asked })
       arrive_met m h = arrive_outcome ∙ ap (out s t) h
 
+  -- the filter stands for the question that is held
+  pub set_here : StandsFor rule reach (meaning c.filter) (question_of c.question)
+  set_here = subst (StandsFor rule reach (meaning c.filter)) (sym (asked_told w)) w.filter
+
   -- what the search for the standing question found
-  pub found_told : (n : Count) (tr : List ℕ) (xs : List (List ℕ)) → n ≡ count_in K.agree rule c.posed.question tr → tr ≡ map K.code xs → n ≡ count_in K.agree rule s.asked (map K.code xs)
+  pub found_told : (n : Count) (tr : List ℕ) (xs : List (List ℕ)) → n ≡ count_in K.agree rule (question_of c.question) tr → tr ≡ map K.code xs → n ≡ count_in K.agree rule s.asked (map K.code xs)
   found_told n tr xs h e =
       h ∙ ap (λ (z : Question). count_in K.agree rule z tr) (asked_told w) ∙ ap (count_in K.agree rule s.asked) e
 
-  pub listed_here : (m : ℕ) (tr : List ℕ) (xs : List (List ℕ)) (mid own : List Match) → own ≡ back_in mid (match_list m K.agree c.posed.question tr) → tr ≡ map K.code xs → own ≡ back_in mid (match_list m K.agree s.asked (map K.code xs))
+  pub listed_here : (m : ℕ) (tr : List ℕ) (xs : List (List ℕ)) (mid own : List Match) → own ≡ back_in mid (match_list m K.agree (question_of c.question) tr) → tr ≡ map K.code xs → own ≡ back_in mid (match_list m K.agree s.asked (map K.code xs))
   listed_here m tr xs mid own h e =
       h ∙ ap (λ (z : Question). back_in mid (match_list m K.agree z tr)) (asked_told w) ∙ ap (λ (z : List ℕ). back_in mid (match_list m K.agree s.asked z)) e
 
@@ -159,7 +169,7 @@ module _ {S F : Type 0} {gs : Ghosts F} {K : Kind S} {rule : Rule} {reach : Reac
       (cat : Catalog) (m : ℕ) → Pushed c.catalog t.machine (length t.samples) n cat m → pairs_in here + n.pairs ≤ c.catalog.list →
       (store' : List S) → length store' ≡ length store → take (samples_in here) store' ≡ take (samples_in here) store → map K.fields (take (length t.samples) (drop (samples_in here) store')) ≡ t.samples →
       (mid own list' : List Match) → length mid ≡ n.pairs → own ≡ back_in mid (match_list m K.agree s.asked (map K.code t.samples)) → list' ≡ put_mid (pairs_in here) n.pairs list own →
-      Holds K rule reach meaning o (record { given = m; traces = s.traces ++ (record { number = m; machine = t.machine; samples = t.samples; loans = 0 } ∷ []); asked = s.asked }) (record { kind = c.kind; posed = c.posed; mark = c.mark; catalog = cat }) store' list'
+      Holds K rule reach meaning o (record { given = m; traces = s.traces ++ (record { number = m; machine = t.machine; samples = t.samples; loans = 0 } ∷ []); asked = s.asked }) (record { kind = c.kind; filter = c.filter; question = c.question; mark = c.mark; catalog = cat }) store' list'
   arrive_holds t n counted cat m pushed room store' ls front back mid own list' lm eo el =
       let a : Question = s.asked in
       let ts : List Trace = s.traces in

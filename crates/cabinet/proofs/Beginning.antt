@@ -3,7 +3,7 @@ use Rattle.std.proofs.Common.{◌≡◌, ℕ, ◌-◌, ◌≤◌, true, false, e
 use Rattle.std.proofs.lemmas.List.{length-replicate}
 use Rattle.std.proofs.lemmas.Bool.{ne_eqb, le-ltb}
 use Rattle.trace.specs.Kinds.{Kind}
-use Rattle.filters.specs.declared.filter.Filter.{Ghosts}
+use Rattle.filters.specs.Asking.{question_of}
 use Rattle.filters.specs.Filters.{Rule, Reach, Pattern, StandsFor, Inside, Necessary, none}
 use Rattle.search.specs.declared.matches.Match.{Match}
 use Rattle.search.specs.Words as one
@@ -24,9 +24,9 @@ mark_taken mark store list some small e =
     rw (p, q) e
 
 -- an empty catalogue, no question, and a list of zeros hold what stands at first
-pub opened : {S F : Type 0} {gs : Ghosts F} (K : Kind S) (rule : Rule) (reach : Reach) (means : F → Pattern) → ((a b : ℕ) → K.agree a b ≡ true → a ≡ b) → Inside rule → Necessary rule reach →
-    (mark : ℕ) (c : Collection S F gs) (store : List S) (list list' : List Match) → c.mark ≡ mark → Empty (length store) (length list) c.catalog → c.posed.question ≡ none →
-    StandsFor rule reach (means c.posed.filter) none → list' ≡ replicate (length list) one.no_match →
+pub opened : {S F : Type 0} (K : Kind S) (rule : Rule) (reach : Reach) (means : F → Pattern) → ((a b : ℕ) → K.agree a b ≡ true → a ≡ b) → Inside rule → Necessary rule reach →
+    (mark : ℕ) (c : Collection S F) (store : List S) (list list' : List Match) → c.mark ≡ mark → Empty (length store) (length list) c.catalog → question_of c.question ≡ none →
+    StandsFor rule reach (means c.filter) none → list' ≡ replicate (length list) one.no_match →
     After K rule reach means (record { mark = mark; store = length store; list = length list }) [] c store list'
 opened K rule reach means equal inside nec mark c store list list' marked empty unasked cleared blank =
     let z : length list - 0 ≡ length list = omega arith in

@@ -2,7 +2,6 @@
 use Rattle.std.proofs.Common.{◌≡◌, ℕ, ◌≤◌, Bool, false, not, ◌||◌, eqb, ltb, List, sym, ap, ◌∙◌}
 use Rattle.std.proofs.lemmas.Bool.{ltb-false, eqb-true, not-false, or_parts}
 use Rattle.trace.specs.Kinds.{Kind}
-use Rattle.filters.specs.declared.filter.Filter.{Ghosts}
 use Rattle.filters.specs.Filters.{Rule, Reach, Pattern}
 use Rattle.search.specs.declared.matches.Match.{Match}
 use Rattle.cabinet.specs.declared.collection.Collection.{Collection}
@@ -29,6 +28,6 @@ right_lengths store list l e =
     }
 
 -- it is the opening's or not, by what the collection noted
-pub wrong_noted : {S F : Type 0} {gs : Ghosts F} {K : Kind S} {rule : Rule} {reach : Reach} {means : F → Pattern} {o : Opening} {s : State} {c : Collection S F gs} {store : List S} {list : List Match} → Holds K rule reach means o s c store list →
+pub wrong_noted : {S F : Type 0} {K : Kind S} {rule : Rule} {reach : Reach} {means : F → Pattern} {o : Opening} {s : State} {c : Collection S F} {store : List S} {list : List Match} → Holds K rule reach means o s c store list →
     (l : Lengths) (b : Bool) → b ≡ wrong c.catalog.store c.catalog.list l → wrong o.store o.list l ≡ b
 wrong_noted {o = o} {c = c} w l b e = ap (λ (z : ℕ). wrong z o.list l) (sym w.noted_store) ∙ ap (λ (z : ℕ). wrong c.catalog.store z l) (sym w.noted_list) ∙ sym e

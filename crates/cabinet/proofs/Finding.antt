@@ -2,7 +2,6 @@
 use Rattle.std.proofs.Common.{◌≡◌, ℕ, ◌<◌, ◌≤◌, true, false, ltb, List, length, get_or, Some, None, Option, sym, ap, ◌∙◌, arith}
 use Rattle.std.proofs.lemmas.Bool.{cond_both, ltb-true, ltb-false, lt-ltb, le-ltb}
 use Rattle.trace.specs.Kinds.{Kind}
-use Rattle.filters.specs.declared.filter.Filter.{Ghosts}
 use Rattle.filters.specs.Filters.{Rule, Reach, Pattern}
 use Rattle.search.specs.declared.matches.Match.{Match}
 use Rattle.catalog.specs.declared.row.Row.{Row}
@@ -28,7 +27,7 @@ found_none n rs e =
     (λ t z. ltb-false (place n rs) (length rs) t)
     e
 
-module _ {S F : Type 0} {gs : Ghosts F} {K : Kind S} {rule : Rule} {reach : Reach} {means : F → Pattern} {o : Opening} {s : State} {c : Collection S F gs} {store : List S} {list : List Match} (w : Holds K rule reach means o s c store list) (n : ℕ) where
+module _ {S F : Type 0} {K : Kind S} {rule : Rule} {reach : Reach} {means : F → Pattern} {o : Opening} {s : State} {c : Collection S F} {store : List S} {list : List Match} (w : Holds K rule reach means o s c store list) (n : ℕ) where
   abbrev here : List Row
   here = standing c.catalog
 

@@ -3,7 +3,7 @@ use Rattle.std.proofs.Common.{◌≡◌, ℕ, ◌+◌, ◌≤◌, List, [], ◌�
 use Rattle.std.proofs.lemmas.List.{length-map}
 use Rattle.std.proofs.lemmas.List.Sums.{sum_by-cons}
 use Rattle.trace.specs.Kinds.{Kind}
-use Rattle.filters.specs.declared.filter.Filter.{Ghosts}
+use Rattle.filters.specs.Asking.{question_of}
 use Rattle.filters.specs.Filters.{Rule, Reach, Pattern, places}
 use Rattle.filters.specs.Matching.{Question}
 use Rattle.search.specs.declared.matches.Match.{Match}
@@ -26,7 +26,7 @@ pub sum_by_map : {X Y : Type 0} (f : Y → ℕ) (g : X → Y) (xs : List X) → 
 sum_by_map f g [] = refl
 sum_by_map f g (x ∷ xs) = sum_by-cons f (g x) (map g xs) ∙ ap (λ (z : ℕ). f (g x) + z) (sum_by_map f g xs) ∙ sym (sum_by-cons (λ x. f (g x)) x xs)
 
-module _ {S F : Type 0} {gs : Ghosts F} {K : Kind S} {rule : Rule} {reach : Reach} {means : F → Pattern} {o : Opening} {s : State} {c : Collection S F gs} {store : List S} {list : List Match} (w : Holds K rule reach means o s c store list) where
+module _ {S F : Type 0} {K : Kind S} {rule : Rule} {reach : Reach} {means : F → Pattern} {o : Opening} {s : State} {c : Collection S F} {store : List S} {list : List Match} (w : Holds K rule reach means o s c store list) where
   -- the last number given, the traces and the question
   pub given_told : c.catalog.given ≡ s.given
   given_told = ap (λ (z : State). z.given) w.state
@@ -34,7 +34,7 @@ module _ {S F : Type 0} {gs : Ghosts F} {K : Kind S} {rule : Rule} {reach : Reac
   pub traces_told : traces_of K.fields (standing c.catalog) store ≡ s.traces
   traces_told = ap (λ (z : State). z.traces) w.state
 
-  pub asked_told : c.posed.question ≡ s.asked
+  pub asked_told : question_of c.question ≡ s.asked
   asked_told = ap (λ (z : State). z.asked) w.state
 
   -- the sums of the rows are those of the traces

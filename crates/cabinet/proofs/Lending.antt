@@ -3,7 +3,7 @@ use Rattle.std.proofs.Common.{◌≡◌, ℕ, suc, ◌+◌, ◌-◌, ◌<◌, Bo
 use Rattle.std.proofs.lemmas.Bool.{le-leb, lt-leb, eq-eqb, ne_eqb}
 use Rattle.trace.specs.Told.{only}
 use Rattle.trace.specs.Kinds.{Kind}
-use Rattle.filters.specs.declared.filter.Filter.{Ghosts}
+use Rattle.filters.specs.Asking.{question_of}
 use Rattle.filters.specs.Filters.{Rule, Reach, Pattern, StandsFor, Inside, Necessary}
 use Rattle.filters.specs.Matching.{Question}
 use Rattle.search.specs.declared.matches.Match.{Match}
@@ -11,7 +11,6 @@ use Rattle.search.specs.Listing.{match_list}
 use Rattle.catalog.specs.declared.row.Row.{Row}
 use Rattle.catalog.specs.Rows as row
 use Rattle.catalog.specs.Catalogs.{standing, SameSizes}
-use Rattle.cabinet.specs.declared.posed.Posed.{Posed}
 use Rattle.cabinet.specs.declared.collection.Collection.{Collection}
 use Rattle.cabinet.specs.Model.{Opening, Trace, State, Call, lend, take_back, accepted, refused, loans_of, lent, with_loans, codes_of, outcome, after}
 use Rattle.cabinet.specs.Words.{all_matches, padded}
@@ -51,7 +50,7 @@ module _ {S : Type 0} (K : Kind S) (a : Question) (f : ℕ → ℕ) (n : ℕ) wh
             (ap (λ (xs : List Row). r ∷ xs) (rows_lent rule ts))
       ]
 
-module _ {S F : Type 0} {gs : Ghosts F} {K : Kind S} {rule : Rule} {reach : Reach} {means : F → Pattern} {o : Opening} {s : State} {c : Collection S F gs} {store : List S} {list : List Match} (w : Holds K rule reach means o s c store list) (n : ℕ) where
+module _ {S F : Type 0} {K : Kind S} {rule : Rule} {reach : Reach} {means : F → Pattern} {o : Opening} {s : State} {c : Collection S F} {store : List S} {list : List Match} (w : Holds K rule reach means o s c store list) (n : ℕ) where
   -- what lending comes to
   pub lend_none : None ≡ row.found_at n (standing c.catalog) → outcome K o s (lend n) ≡ refused (only 13)
   lend_none e = rw (not_standing w n e)
@@ -90,11 +89,11 @@ module _ {S F : Type 0} {gs : Ghosts F} {K : Kind S} {rule : Rule} {reach : Reac
         rw (own_mark, is_standing w n at e, p)
 
   -- with the loans of the row counted anew, the collection holds them
-  lent_holds : (f : ℕ → ℕ) (at m : ℕ) → Some at ≡ row.found_at n (standing c.catalog) → m ≡ f (get_or (standing c.catalog) at row.blank).loans → (c' : Collection S F gs) →
+  lent_holds : (f : ℕ → ℕ) (at m : ℕ) → Some at ≡ row.found_at n (standing c.catalog) → m ≡ f (get_or (standing c.catalog) at row.blank).loans → (c' : Collection S F) →
       standing c'.catalog ≡ set (standing c.catalog) at (row.with_loans m (get_or (standing c.catalog) at row.blank)) →
-      SameSizes c.catalog c'.catalog → c'.mark ≡ c.mark → c'.posed ≡ c.posed →
+      SameSizes c.catalog c'.catalog → c'.mark ≡ c.mark → c'.filter ≡ c.filter → c'.question ≡ c.question →
       Holds K rule reach means o (record { given = s.given; traces = with_loans f n s.traces; asked = s.asked }) c' store list
-  lent_holds f at m e is c' rows same mark posed =
+  lent_holds f at m e is c' rows same mark filter question =
       let rs : List Row = standing c.catalog in
       let rows' : standing c'.catalog ≡ recounted_rows f n rs =
       rows ∙ ap (λ (z : ℕ). set rs at (row.with_loans z (get_or rs at row.blank))) is
@@ -106,28 +105,28 @@ module _ {S F : Type 0} {gs : Ghosts F} {K : Kind S} {rule : Rule} {reach : Reac
         noted_list = same.list ∙ w.noted_list;
         list_length = w.list_length;
         state =
-            same_state same.given (ap (λ (xs : List Row). traces_of K.fields xs store) rows' ∙ traces_lent K.fields n f rs store) (ap (λ (p : Posed F gs). p.question) posed)
+            same_state same.given (ap (λ (xs : List Row). traces_of K.fields xs store) rows' ∙ traces_lent K.fields n f rs store) (ap question_of question)
             ∙ ap (λ (z : State). record { given = z.given; traces = with_loans f n z.traces; asked = z.asked }) w.state;
         counted = rows' ∙ ap (recounted_rows f n) w.counted ∙ rows_lent K s.asked f n rule s.traces;
-        filter = subst (λ (p : Posed F gs). StandsFor rule reach (means p.filter) s.asked) (sym posed) w.filter;
+        filter = subst (λ (x : F). StandsFor rule reach (means x) s.asked) (sym filter) w.filter;
         listed = w.listed ∙ ap (padded o.list) (sym (matches_lent K s.asked f n s.traces));
       }
 
-module _ {S F : Type 0} {gs : Ghosts F} {K : Kind S} {rule : Rule} {reach : Reach} {means : F → Pattern} {o : Opening} {h : List Call} {c : Collection S F gs} {store : List S} {list : List Match} (w : After K rule reach means o h c store list)
+module _ {S F : Type 0} {K : Kind S} {rule : Rule} {reach : Reach} {means : F → Pattern} {o : Opening} {h : List Call} {c : Collection S F} {store : List S} {list : List Match} (w : After K rule reach means o h c store list)
     (n at : ℕ) (r : Row) (e : Some at ≡ row.found_at n (standing c.catalog)) (row_is : r ≡ get_or (standing c.catalog) at row.blank) where
   row_loans : (get_or (standing c.catalog) at row.blank).loans ≡ r.loans
   row_loans = ap (λ (x : Row). x.loans) (sym row_is)
 
   module _ (equal : (a b : ℕ) → K.agree a b ≡ true → a ≡ b) (inside : Inside rule) (nec : Necessary rule reach)
-      (c' : Collection S F gs) (m : ℕ) (rows : standing c'.catalog ≡ set (standing c.catalog) at (row.with_loans m (get_or (standing c.catalog) at row.blank)))
-      (same : SameSizes c.catalog c'.catalog) (mark : c'.mark ≡ c.mark) (posed : c'.posed ≡ c.posed) where
+      (c' : Collection S F) (m : ℕ) (rows : standing c'.catalog ≡ set (standing c.catalog) at (row.with_loans m (get_or (standing c.catalog) at row.blank)))
+      (same : SameSizes c.catalog c'.catalog) (mark : c'.mark ≡ c.mark) (filter : c'.filter ≡ c.filter) (question : c'.question ≡ c.question) where
     -- one loan more
     pub lend_kept : m ≡ r.loans + 1 → r.loans < 255 → (number : ℕ) → n ≡ number →
         After K rule reach means o (lend n ∷ h) c' store list × Answers (Ok number) (outcome K o (after K o h) (lend n))
     lend_kept is few number named =
         subst (λ (z : ℕ). After K rule reach means o (lend n ∷ h) c' store list × Answers (Ok z) (outcome K o (after K o h) (lend n))) named
         (accepted_kept equal inside nec h (lend n) n
-        (lent_holds w.holds n suc at m e (omega (arith, row_loans)) c' rows same mark posed)
+        (lent_holds w.holds n suc at m e (omega (arith, row_loans)) c' rows same mark filter question)
         (lend_free w.holds n at e (omega (arith, row_loans))))
 
     -- one loan less
@@ -135,7 +134,7 @@ module _ {S F : Type 0} {gs : Ghosts F} {K : Kind S} {rule : Rule} {reach : Reac
         After K rule reach means o (take_back slip n ∷ h) c' store list × Answers (Ok n) (outcome K o (after K o h) (take_back slip n))
     back_kept slip own is some =
         accepted_kept equal inside nec h (take_back slip n) n
-        (lent_holds w.holds n (λ x. x - 1) at m e (is ∙ ap (λ (z : ℕ). z - 1) (sym row_loans)) c' rows same mark posed)
+        (lent_holds w.holds n (λ x. x - 1) at m e (is ∙ ap (λ (z : ℕ). z - 1) (sym row_loans)) c' rows same mark filter question)
         (back_lent w.holds n slip own at e (λ z. some (sym row_loans ∙ z)))
 
   -- as many loans as can be counted

@@ -5,7 +5,8 @@ use Rattle.std.proofs.lemmas.Bool.{cases_Bool, le-ltb, lt-ltb, ltb-true, ltb-fal
 use Rattle.trace.specs.Told.{Told, only}
 use Rattle.trace.specs.Kinds.{Kind}
 use Rattle.trace.specs.Files as file
-use Rattle.filters.specs.declared.filter.Filter.{Ghosts}
+use Rattle.filters.specs.Asking.{question_of}
+use Rattle.filters.specs.declared.held.Held.{Held}
 use Rattle.filters.specs.declared.refusal.Refusal as filter
 use Rattle.filters.specs.Filters.{Rule, Reach, Pattern, StandsFor, verdict}
 use Rattle.filters.specs.Matching.{Question}
@@ -18,7 +19,6 @@ use Rattle.catalog.specs.declared.refusal.Refusal.{Refusal}
 use Rattle.catalog.specs.declared.refusal.Refusal.TheVariants.{OtherMemory, ListFull}
 use Rattle.catalog.specs.Rows.{samples_in, recounted, with_count, pairs_of_counts}
 use Rattle.catalog.specs.Catalogs.{standing, SameSizes, recount_verdict}
-use Rattle.cabinet.specs.declared.posed.Posed.{Posed}
 use Rattle.cabinet.specs.declared.collection.Collection.{Collection}
 use Rattle.cabinet.specs.Model.{Opening, Lengths, Trace, State, accepted, refused, unless, by_verdict, outcome, ask, read, question, pose, pairs_of, wrong}
 use Rattle.cabinet.specs.Words.{all_matches, padded}
@@ -106,7 +106,7 @@ recount_fits rs list cs h v =
     (λ (t : ltb list n ≡ false). ltb-false list n t)
     (cases_Bool (ltb list n))
 
-module _ {S F : Type 0} {gs : Ghosts F} {K : Kind S} {rule : Rule} {reach : Reach} {meaning : F → Pattern} {o : Opening} {s : State} {c : Collection S F gs} {store : List S} {list : List Match} (w : Holds K rule reach meaning o s c store list) where
+module _ {S F : Type 0} {K : Kind S} {rule : Rule} {reach : Reach} {meaning : F → Pattern} {o : Opening} {s : State} {c : Collection S F} {store : List S} {list : List Match} (w : Holds K rule reach meaning o s c store list) where
   abbrev here : List Row
   here = standing c.catalog
 
@@ -135,12 +135,12 @@ module _ {S F : Type 0} {gs : Ghosts F} {K : Kind S} {rule : Rule} {reach : Reac
         ask_met h = taken ∙ rw (le-ltb o.list (pairs_of K (question K m k t) s.traces) (omega (arith, pairs_here, w.noted_list)))
 
   -- what then stands, in the list as the call leaves it
-  pub ask_holds : (a : Question) (p : Posed F gs) (cat : Catalog) (counts : List Count) (list' : List Match) →
-      p.question ≡ a → StandsFor rule reach (meaning p.filter) a →
+  pub ask_holds : (a : Question) (held : Held) (filter : F) (cat : Catalog) (counts : List Count) (list' : List Match) →
+      question_of held ≡ a → StandsFor rule reach (meaning filter) a →
       take (length here) counts ≡ map (count_of K rule a) (traces_of K.fields here store) → standing cat ≡ recounted here counts → SameSizes c.catalog cat →
       length list' ≡ length list → list' ≡ padded (length list) (all_matches K a (traces_of K.fields (standing cat) store)) →
-      Holds K rule reach meaning o (record { given = s.given; traces = s.traces; asked = a }) (record { kind = c.kind; posed = p; mark = c.mark; catalog = cat }) store list'
-  ask_holds a p cat counts list' ea st ec er same ll el =
+      Holds K rule reach meaning o (record { given = s.given; traces = s.traces; asked = a }) (record { kind = c.kind; filter = filter; question = held; mark = c.mark; catalog = cat }) store list'
+  ask_holds a held filter cat counts list' ea st ec er same ll el =
       let es : traces_of K.fields (standing cat) store ≡ s.traces = ap (λ (z : List Row). traces_of K.fields z store) er ∙ traces_recounted K.fields here counts store ∙ traces_told w in
       record {
         mark = w.mark;

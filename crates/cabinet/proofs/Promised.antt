@@ -2,7 +2,6 @@
 -- passed allow.
 use Rattle.std.proofs.Common.{◌≡◌, ℕ, suc, ◌*◌, ◌≤◌, true, List, sym, subst}
 use Rattle.trace.specs.Kinds.{Kind}
-use Rattle.filters.specs.declared.filter.Filter.{Ghosts}
 use Rattle.filters.specs.Filters.{Rule, Reach, Pattern, Inside, Necessary}
 use Rattle.search.specs.declared.matches.Match.{Match}
 use Rattle.catalog.specs.declared.row.Row.{Row}
@@ -17,7 +16,7 @@ use Rattle.cabinet.proofs.Wording.{all_whole}
 use Rattle.cabinet.proofs.Bounding.{rows_bounded}
 use Rattle.cabinet.proofs.Holding.{matches_told}
 
-module _ {S F : Type 0} {gs : Ghosts F} {K : Kind S} {rule : Rule} {reach : Reach} {means : F → Pattern} {o : Opening} {s : State} {c : Collection S F gs} {store : List S} {list : List Match} (w : Holds K rule reach means o s c store list) where
+module _ {S F : Type 0} {K : Kind S} {rule : Rule} {reach : Reach} {means : F → Pattern} {o : Opening} {s : State} {c : Collection S F} {store : List S} {list : List Match} (w : Holds K rule reach means o s c store list) where
   -- where the numbers rise, the list is whole
   holds_whole : Numbered s → Whole K s.asked s.traces list (pairs_in (standing c.catalog))
   holds_whole u =
@@ -32,5 +31,5 @@ module _ {S F : Type 0} {gs : Ghosts F} {K : Kind S} {rule : Rule} {reach : Reac
       (rows_bounded K rule reach inside nec equal s.asked w.filter.fair s.traces)
 
 -- what holds after a list of calls is all that is promised after them
-pub promised : {S F : Type 0} {gs : Ghosts F} {K : Kind S} {rule : Rule} {reach : Reach} {means : F → Pattern} {o : Opening} {c : Collection S F gs} {store : List S} {list : List Match} → ((a b : ℕ) → K.agree a b ≡ true → a ≡ b) → Inside rule → Necessary rule reach → (h : List Call) → Holds K rule reach means o (after K o h) c store list → After K rule reach means o h c store list
+pub promised : {S F : Type 0} {K : Kind S} {rule : Rule} {reach : Reach} {means : F → Pattern} {o : Opening} {c : Collection S F} {store : List S} {list : List Match} → ((a b : ℕ) → K.agree a b ≡ true → a ≡ b) → Inside rule → Necessary rule reach → (h : List Call) → Holds K rule reach means o (after K o h) c store list → After K rule reach means o h c store list
 promised {K = K} {o = o} equal inside nec h w = record { holds = w; whole = holds_whole w (numbered K o h); bounded = holds_bounded w equal inside nec }

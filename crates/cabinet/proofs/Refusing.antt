@@ -3,7 +3,6 @@ use Rattle.std.proofs.Common.{◌≡◌, ℕ, List, ◌∷◌, IsErrAnd, Err, Re
 use Rattle.std.proofs.lemmas.Result.{err_from_is_err_and}
 use Rattle.trace.specs.Kinds.{Kind}
 use Rattle.trace.specs.Refusals.{answer}
-use Rattle.filters.specs.declared.filter.Filter.{Ghosts}
 use Rattle.filters.specs.Filters.{Rule, Reach, Pattern}
 use Rattle.search.specs.declared.matches.Match.{Match}
 use Rattle.catalog.specs.declared.refusal.Refusal.{Refusal}
@@ -14,7 +13,7 @@ use Rattle.cabinet.specs.Promise.{After, Answers}
 use Rattle.cabinet.proofs.Steps.{refused_kept}
 
 -- a refusal that comes out of a call below is the call's own
-pub refused_by : {S F A : Type 0} {gs : Ghosts F} {K : Kind S} {rule : Rule} {reach : Reach} {means : F → Pattern} {o : Opening} {h : List Call} {c : Collection S F gs} {store : List S} {list : List Match} → After K rule reach means o h c store list →
+pub refused_by : {S F A : Type 0} {K : Kind S} {rule : Rule} {reach : Reach} {means : F → Pattern} {o : Opening} {h : List Call} {c : Collection S F} {store : List S} {list : List Match} → After K rule reach means o h c store list →
     (f : A → ℕ) (r : Result A Refusal) (e : Refusal) → r ≡ Err e → (call : Call) → outcome K o (after K o h) call ≡ refused (told e) →
     After K rule reach means o (call ∷ h) c store list × Answers (answer f told r) (outcome K o (after K o h) call)
 refused_by {K = K} {o = o} {h = h} w f r e q call is =

@@ -3,7 +3,6 @@
 use Rattle.std.proofs.Common.{◌≡◌, ℕ, suc, ◌*◌, ◌≤◌, true, List, ◌∷◌, Ok, Err, sym, refl, subst}
 use Rattle.trace.specs.Told.{Told}
 use Rattle.trace.specs.Kinds.{Kind}
-use Rattle.filters.specs.declared.filter.Filter.{Ghosts}
 use Rattle.filters.specs.Filters.{Rule, Reach, Pattern, Inside, Necessary}
 use Rattle.search.specs.declared.matches.Match.{Match}
 use Rattle.catalog.specs.Rows.{pairs_in, places_in}
@@ -15,7 +14,7 @@ use Rattle.cabinet.specs.Promise.{Holds, After, Answers}
 use Rattle.cabinet.proofs.Promised.{promised}
 
 -- a refused call that leaves collection, store and list
-pub refused_kept : {S F : Type 0} {gs : Ghosts F} {K : Kind S} {rule : Rule} {reach : Reach} {means : F → Pattern} {o : Opening} {h : List Call} {c : Collection S F gs} {store : List S} {list : List Match} → After K rule reach means o h c store list →
+pub refused_kept : {S F : Type 0} {K : Kind S} {rule : Rule} {reach : Reach} {means : F → Pattern} {o : Opening} {h : List Call} {c : Collection S F} {store : List S} {list : List Match} → After K rule reach means o h c store list →
     (call : Call) (e : Told) → outcome K o (after K o h) call ≡ refused e → After K rule reach means o (call ∷ h) c store list × Answers (Err e) (outcome K o (after K o h) call)
 refused_kept {K = K} {rule = rule} {reach = reach} {means = means} {o = o} {h = h} {c = c} {store = store} {list = list} w call e q =
     let s : State = after K o h in (
@@ -28,7 +27,7 @@ refused_kept {K = K} {rule = rule} {reach = reach} {means = means} {o = o} {h = 
     )
 
 -- an accepted call that leaves what it makes
-pub accepted_kept : {S F : Type 0} {gs : Ghosts F} {K : Kind S} {rule : Rule} {reach : Reach} {means : F → Pattern} {o : Opening} {s : State} {c : Collection S F gs} {store : List S} {list : List Match} → ((a b : ℕ) → K.agree a b ≡ true → a ≡ b) → Inside rule → Necessary rule reach →
+pub accepted_kept : {S F : Type 0} {K : Kind S} {rule : Rule} {reach : Reach} {means : F → Pattern} {o : Opening} {s : State} {c : Collection S F} {store : List S} {list : List Match} → ((a b : ℕ) → K.agree a b ≡ true → a ≡ b) → Inside rule → Necessary rule reach →
     (h : List Call) (call : Call) (n : ℕ) → Holds K rule reach means o s c store list → outcome K o (after K o h) call ≡ accepted n s →
     After K rule reach means o (call ∷ h) c store list × Answers (Ok n) (outcome K o (after K o h) call)
 accepted_kept {K = K} {rule = rule} {reach = reach} {means = means} {o = o} {c = c} {store = store} {list = list} equal inside nec h call n w q = (

@@ -2,7 +2,6 @@
 use Rattle.std.proofs.Common.{◌≡◌, ℕ, suc, ◌+◌, ◌-◌, ◌*◌, ◌<◌, ◌≤◌, true, List, map, length, get_or, take, drop, replicate, Some, sum_by, sym, refl, ap, ◌∙◌, subst, arith}
 use Rattle.std.proofs.lemmas.List.{get_or-map, take_at}
 use Rattle.trace.specs.Kinds.{Kind}
-use Rattle.filters.specs.declared.filter.Filter.{Ghosts}
 use Rattle.filters.specs.Filters.{Rule, Reach, Pattern, places}
 use Rattle.search.specs.declared.matches.Match.{Match}
 use Rattle.search.specs.Words as one
@@ -41,12 +40,12 @@ totals_report c t a r reach s =
     same_report c.used c.used t.samples (row.samples_in (standing c)) t.pairs (row.pairs_in (standing c)) t.places (row.places_in (standing c)) r reach
     refl (ap (λ (x : Totals). x.samples) a) (ap (λ (x : Totals). x.pairs) a) (ap (λ (x : Totals). x.places) a) s
 
-module _ {S F : Type 0} {gs : Ghosts F} {K : Kind S} {rule : Rule} {reach : Reach} {means : F → Pattern} {o : Opening} {s : State} {c : Collection S F gs} {store : List S} {list : List Match} (w : Holds K rule reach means o s c store list) where
+module _ {S F : Type 0} {K : Kind S} {rule : Rule} {reach : Reach} {means : F → Pattern} {o : Opening} {s : State} {c : Collection S F} {store : List S} {list : List Match} (w : Holds K rule reach means o s c store list) where
   -- all of them added up
-  pub report_told : report_in c.catalog (means c.posed.filter).span ≡ report_of K rule reach s
+  pub report_told : report_in c.catalog (means c.filter).span ≡ report_of K rule reach s
   report_told =
       same_report c.catalog.used (length s.traces) (row.samples_in (standing c.catalog)) (samples_of s.traces) (row.pairs_in (standing c.catalog)) (pairs_of K s.asked s.traces)
-      (row.places_in (standing c.catalog)) (sum_by (λ t. places rule s.asked (codes_of K t)) s.traces) (means c.posed.filter).span (reach s.asked.m s.asked.k)
+      (row.places_in (standing c.catalog)) (sum_by (λ t. places rule s.asked (codes_of K t)) s.traces) (means c.filter).span (reach s.asked.m s.asked.k)
       (sym (used_standing c.catalog) ∙ count_told w) (samples_told w) (pairs_told w) (places_told w) w.filter.span
 
   -- the matches are at the front of the list
@@ -114,9 +113,9 @@ module _ {S F : Type 0} {gs : Ghosts F} {K : Kind S} {rule : Rule} {reach : Reac
         )
 
 -- the live front of the list is whole
-pub listed_told : {S F : Type 0} {gs : Ghosts F} {K : Kind S} {rule : Rule} {reach : Reach} {means : F → Pattern} {o : Opening} {h : List Call} {c : Collection S F gs} {store : List S} {list : List Match} → After K rule reach means o h c store list →
+pub listed_told : {S F : Type 0} {K : Kind S} {rule : Rule} {reach : Reach} {means : F → Pattern} {o : Opening} {h : List Call} {c : Collection S F} {store : List S} {list : List Match} → After K rule reach means o h c store list →
     (report : Report) →
-    report ≡ report_in c.catalog (means c.posed.filter).span →
+    report ≡ report_in c.catalog (means c.filter).span →
     Listed K rule reach (after K o h) (take report.pairs list) report
 listed_told {K = K} {o = o} {h = h} {c = c} {list = list} w report r =
     let s : State = after K o h in

@@ -6,7 +6,6 @@ use Rattle.std.proofs.lemmas.List.{append_assoc, length-append, length-take-le, 
 use Rattle.std.proofs.lemmas.List.Sums.{sum_by-cons, sum_by-append, sum_by-take-drop, sum_by-drop_more}
 use Rattle.std.proofs.lemmas.Bool.{le-leb, and_from, cond-true, lt-ltb, le-ltb}
 use Rattle.trace.specs.Kinds.{Kind}
-use Rattle.filters.specs.declared.filter.Filter.{Ghosts}
 use Rattle.filters.specs.Filters.{Rule, Reach, Pattern}
 use Rattle.filters.specs.Matching.{Question}
 use Rattle.search.specs.declared.matches.Match.{Match}
@@ -179,7 +178,7 @@ blanked_by xs ys zs {b' = b'} {l = l} {l' = l'} {a = a} {a' = a'} p q r e z h fi
     cc
 
 -- a withdrawal, by what stands before it
-module _ {S F : Type 0} {gs : Ghosts F} {K : Kind S} {rule : Rule} {reach : Reach} {meaning : F → Pattern} {o : Opening} {s : State} {c : Collection S F gs} {store : List S} {list : List Match} (w : Holds K rule reach meaning o s c store list) (l : Lengths) (n : ℕ) where
+module _ {S F : Type 0} {K : Kind S} {rule : Rule} {reach : Reach} {meaning : F → Pattern} {o : Opening} {s : State} {c : Collection S F} {store : List S} {list : List Match} (w : Holds K rule reach meaning o s c store list) (l : Lengths) (n : ℕ) where
   abbrev here : List Row
   here = standing c.catalog
 
@@ -198,7 +197,7 @@ module _ {S F : Type 0} {gs : Ghosts F} {K : Kind S} {rule : Rule} {reach : Reac
       store' ≡ closed store (row.samples_in (take (row.place n here) here)) (get_or here (row.place n here) row.blank).length (row.samples_in here) → length store' ≡ length store →
       list' ≡ put_mid (row.pairs_in here - (get_or here (row.place n here) row.blank).pairs) (get_or here (row.place n here) row.blank).pairs (closed list (row.pairs_in (take (row.place n here) here)) (get_or here (row.place n here) row.blank).pairs (row.pairs_in here)) (replicate (get_or here (row.place n here) row.blank).pairs no_match) →
       standing cat ≡ remove here (row.place n here) → SameSizes c.catalog cat →
-      Holds K rule reach meaning o (record { given = s.given; traces = without n s.traces; asked = s.asked }) (record { kind = c.kind; posed = c.posed; mark = c.mark; catalog = cat }) store' list'
+      Holds K rule reach meaning o (record { given = s.given; traces = without n s.traces; asked = s.asked }) (record { kind = c.kind; filter = c.filter; question = c.question; mark = c.mark; catalog = cat }) store' list'
   withdraw_holds h store' list' cat es ls el er same =
       let p : ℕ = row.place n here in
       let a : Question = s.asked in

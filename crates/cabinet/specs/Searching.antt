@@ -1,13 +1,13 @@
 -- What searching the standing traces finds. Assumes nothing.
-use Rattle.std.specs.Prelude.{◌≡◌, ℕ, ◌<◌, Bool, List, map, length, take, drop, Ok, Err, Result}
+use Rattle.std.specs.Prelude.{◌≡◌, ℕ, ◌<◌, ◌≤◌, Bool, List, map, length, take, drop, Ok, Err, Result}
 use Rattle.trace.specs.Kinds.{Kind}
-use Rattle.filters.specs.Filters.{Rule, places}
+use Rattle.filters.specs.Filters.{Rule, Reach, Pattern, StandsFor, places}
 use Rattle.filters.specs.Matching.{Question, pairs}
 use Rattle.search.specs.declared.matches.Match.{Match}
 use Rattle.search.specs.Listing.{match_list, back_in}
 use Rattle.catalog.specs.declared.row.Count.{Count}
 use Rattle.catalog.specs.declared.refusal.Refusal.{Refusal}
-use Rattle.catalog.specs.declared.refusal.Refusal.TheVariants.{ListFull}
+use Rattle.catalog.specs.declared.refusal.Refusal.TheVariants.{OtherMemory, ListFull}
 use Rattle.cabinet.specs.Model.{Trace, pairs_of}
 use Rattle.cabinet.specs.Shelf.{count_of}
 
@@ -19,6 +19,11 @@ count_in agree rule a t = record { pairs = pairs agree a t; places = places rule
 pub record Searched (agree : ℕ → ℕ → Bool) (rule : Rule) (a : Question) (t : List ℕ) (number : ℕ) (before behind : List Match) (found : Count) : Type 0 where
   pub counted : found ≡ count_in agree rule a t
   pub listed : behind ≡ back_in before (match_list number agree a t)
+
+-- a search through a filter that may not stand for the question: it is refused only where it does not, or for want of marks
+abbrev pub SearchedThrough : (ℕ → ℕ → Bool) → Rule → Reach → Pattern → Question → List ℕ → ℕ → ℕ → List Match → List Match → Result Count Refusal → Type 0
+SearchedThrough agree rule reach p a t marks number before behind (Ok n) = StandsFor rule reach p a → Searched agree rule a t number before behind n
+SearchedThrough agree rule reach p a t marks number before behind (Err e) = (e ≡ OtherMemory) × (StandsFor rule reach p a → 1024 ≤ marks → ⊥)
 
 -- the counts of all traces, or the refusal where their pairs exceed the list
 abbrev pub CountedAll : {S : Type 0} → Kind S → Rule → Question → ℕ → List Trace → Result (List Count) Refusal → Type 0

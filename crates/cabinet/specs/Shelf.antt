@@ -1,7 +1,7 @@
 -- What a collection and its memory hold. Assumes nothing.
 use Rattle.std.specs.Prelude.{ℕ, List, [], ◌∷◌, map, length, take, drop}
 use Rattle.trace.specs.Kinds.{Kind}
-use Rattle.filters.specs.declared.filter.Filter.{Ghosts}
+use Rattle.filters.specs.Asking.{question_of}
 use Rattle.filters.specs.Filters.{Rule, places}
 use Rattle.filters.specs.Matching.{Question, pairs}
 use Rattle.catalog.specs.declared.row.Row.{Row}
@@ -19,8 +19,8 @@ abbrev pub traces_of : {S : Type 0} → (S → List ℕ) → List Row → List S
 traces_of fields [] store = []
 traces_of fields (r ∷ rs) store = trace_of fields r (take r.length store) ∷ traces_of fields rs (drop r.length store)
 
-abbrev pub state_of : {S F : Type 0} {gs : Ghosts F} → Kind S → Collection S F gs → List S → State
-state_of K c store = record { given = c.catalog.given; traces = traces_of K.fields (standing c.catalog) store; asked = c.posed.question }
+abbrev pub state_of : {S F : Type 0} → Kind S → Collection S F → List S → State
+state_of K c store = record { given = c.catalog.given; traces = traces_of K.fields (standing c.catalog) store; asked = question_of c.question }
 
 -- what a question finds in a trace
 abbrev pub count_of : {S : Type 0} → Kind S → Rule → Question → Trace → Count

@@ -9,6 +9,7 @@ ghost use Rattle.cabinet.specs.Calls.{lengths, WrongRefused};
 ghost use Rattle.cabinet.specs.Searching.{Stored-at};
 
 use crate::collection::Collection;
+use crate::searching::search_through;
 use catalog::refusal::Refusal;
 use catalog::row::Totals;
 use filters::filter::Filter;
@@ -35,12 +36,19 @@ impl<S: Sample, F: Filter> Collection<S, F> {
         let header = read_codes::<S>(file, codes)?;
         let trace = &codes[..header.count as usize];
         // Only counted: no match is written, so the number is not asked for yet.
-        let count = self.posed.search::<S>(trace, 0, marks, &mut []);
+        let count = search_through::<S, F>(&self.filter, &self.question, trace, 0, marks, &mut [])?;
         let Totals { samples, pairs, .. } = self.catalog.all_totals();
         let number = self.catalog.push(header.machine, header.count, count)?;
         let listed = pairs + count.pairs as usize;
-        self.posed
-            .search::<S>(trace, number, marks, &mut list[pairs..listed]);
+        // Not refused, since the same search was not when it only counted.
+        let _ = search_through::<S, F>(
+            &self.filter,
+            &self.question,
+            trace,
+            number,
+            marks,
+            &mut list[pairs..listed],
+        );
         store_trace::<S>(file, store, samples, header.count as usize);
         Ok(number)
     }

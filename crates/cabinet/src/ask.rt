@@ -41,11 +41,12 @@ impl<S: Sample, F: Filter> Collection<S, F> {
             m,
             k,
         };
-        let posed = Posed::new(self.posed.filter, question)?;
+        let posed = Posed::new(&self.filter, question)?;
         let counts = count_traces(&self.catalog, &posed, store, codes, marks)?;
         self.catalog.recount(&counts)?;
         list_traces(&self.catalog, &posed, store, list, codes, marks);
-        self.posed = posed;
+        self.filter = posed.filter;
+        self.question = posed.question;
         Ok(())
     }
 }

@@ -6,14 +6,13 @@ ghost use Rattle.cabinet.specs.Calls.{lengths};
 
 use crate::collection::Collection;
 use catalog::refusal::Refusal;
-use filters::filter::Filter;
 use filters::held::MOST_CODES;
 use search::matches::Match;
 use trace::file::MOST_SAMPLES;
 
 // Four slices, and no struct of them: `ask` brings the store and `withdraw` the buffers by `&`, and a struct would ask
 // for `&mut`.
-impl<S, F: Filter> Collection<S, F> {
+impl<S, F> Collection<S, F> {
     /// Refuses store or list of another length than at the opening, and buffers that are too short: for the codes of any
     /// trace, and for a mark on each place of any query.
     pub(crate) fn check_memory(

@@ -58,7 +58,7 @@ impl<S: Sample, F: Filter> Collection<S, F> {
 
     /// All rows added up, and the filter's reach.
     pub fn report(&self) -> Report
-        ensures rows { result ≡ record { traces = self.now.catalog.used; samples = samples_in (standing self.now.catalog); pairs = pairs_in (standing self.now.catalog); places = places_in (standing self.now.catalog); reach = (F.stands self.now.posed.filter).span } }
+        ensures rows { result ≡ record { traces = self.now.catalog.used; samples = samples_in (standing self.now.catalog); pairs = pairs_in (standing self.now.catalog); places = places_in (standing self.now.catalog); reach = (F.stands self.now.filter).span } }
         ensures told { (o : Opening) (h : List Call) (store : List S) (list : List Match) → After S.kind F.rule F.reaches F.stands o h self.now store list → result ≡ report_of S.kind F.rule F.reaches (after S.kind o h) }
     {
         let totals = self.catalog.all_totals();
@@ -67,7 +67,7 @@ impl<S: Sample, F: Filter> Collection<S, F> {
             samples: totals.samples,
             pairs: totals.pairs,
             places: totals.places,
-            reach: self.posed.filter.reach(),
+            reach: self.filter.reach(),
         }
     }
 

@@ -1,7 +1,8 @@
 //! The standing traces searched.
 ghost use Rattle.std.specs.Prelude.{◌≡◌, ◌≤◌, ◌++◌, map, length, drop};
+ghost use Rattle.filters.specs.Asking.{question_of};
 ghost use Rattle.catalog.specs.Catalogs.{standing};
-ghost use Rattle.cabinet.specs.Searching.{Searched, CountedAll};
+ghost use Rattle.cabinet.specs.Searching.{Searched, SearchedThrough, CountedAll};
 ghost use Rattle.cabinet.specs.Shelf.{traces_of, row_of};
 ghost use Rattle.cabinet.specs.Words.{all_matches, padded};
 
@@ -11,13 +12,37 @@ use catalog::gap::blank_out;
 use catalog::refusal::Refusal;
 use catalog::row::Count;
 use filters::filter::Filter;
+use filters::held::Held;
 use search::matches::Match;
 use search::scan::scan;
 use trace::sample::Sample;
 
+/// Searches a trace through a filter, which may not stand for the question: counts its matches, and writes them to the back
+/// of `out`.
+pub(crate) fn search_through<S: Sample, F: Filter>(
+    filter: &F,
+    question: &Held,
+    trace: &[u16],
+    number: u32,
+    marks: &mut [u8],
+    out: &mut [Match],
+) -> Result<Count, Refusal>
+    requires { length trace.now ≤ 4096 }
+    ensures { SearchedThrough S.kind.agree F.rule F.reaches (F.stands filter.now) (question_of question.now) trace.now (length marks.old) number out.old out.new result }
+{
+    match scan::<S, F>(filter, question.as_question(), trace, number, marks, out) {
+        Ok(found) => Ok(Count {
+            pairs: found.pairs as u32,
+            places: found.places as u32,
+        }),
+        // Not reached where the filter stands for the question and the marks suffice, which a type cannot say here.
+        Err(_) => Err(Refusal::OtherMemory),
+    }
+}
+
 impl<F: Filter> Posed<F> {
     /// Searches a trace: counts its matches, and writes them to the back of `out`.
-    pub(crate) fn search<S: Sample>(
+    fn search<S: Sample>(
         &self,
         trace: &[u16],
         number: u32,
@@ -26,14 +51,10 @@ impl<F: Filter> Posed<F> {
     ) -> Count
         requires short { length trace.now ≤ 4096 }
         requires room { 1024 ≤ length marks.old }
-        ensures { Searched S.kind.agree F.rule self.now.question trace.now number out.old out.new result }
+        ensures { Searched S.kind.agree F.rule (question_of self.now.question) trace.now number out.old out.new result }
     {
-        let question = self.question.as_question();
-        match scan::<S, F>(&self.filter, question, trace, number, marks, out) {
-            Ok(found) => Count {
-                pairs: found.pairs as u32,
-                places: found.places as u32,
-            },
+        match search_through::<S, F>(&self.filter, &self.question, trace, number, marks, out) {
+            Ok(count) => count,
             Err(_) => unreachable(),
         }
     }
@@ -62,7 +83,7 @@ fn search_trace<S: Sample, F: Filter>(
 ) -> Count
     requires short { length samples.now ≤ 4096 }
     requires room { (4096 ≤ length codes.old) × (1024 ≤ length marks.old) }
-    ensures { Searched S.kind.agree F.rule posed.now.question (map S.kind.code (map S.kind.fields samples.now)) number out.old out.new result }
+    ensures { Searched S.kind.agree F.rule (question_of posed.now.question) (map S.kind.code (map S.kind.fields samples.now)) number out.old out.new result }
 {
     load_codes(samples, codes);
     posed.search::<S>(&codes[..samples.len()], number, marks, out)
@@ -78,7 +99,7 @@ pub(crate) fn count_traces<S: Sample, F: Filter>(
 ) -> Result<[Count; MOST_TRACES], Refusal>
     requires room { (4096 ≤ length codes.old) × (1024 ≤ length marks.old) }
     requires store { length store.now ≡ catalog.now.store }
-    ensures { CountedAll S.kind F.rule posed.now.question catalog.now.list (traces_of S.kind.fields (standing catalog.now) store.now) result }
+    ensures { CountedAll S.kind F.rule (question_of posed.now.question) catalog.now.list (traces_of S.kind.fields (standing catalog.now) store.now) result }
 {
     let mut counts = [Count::default(); MOST_TRACES];
     let mut at = 0;
@@ -110,8 +131,8 @@ pub(crate) fn list_traces<S: Sample, F: Filter>(
     requires room { (4096 ≤ length codes.old) × (1024 ≤ length marks.old) }
     requires store { length store.now ≡ catalog.now.store }
     requires list { length list.old ≡ catalog.now.list }
-    requires counted { standing catalog.now ≡ map (row_of S.kind F.rule posed.now.question) (traces_of S.kind.fields (standing catalog.now) store.now) }
-    ensures { list.new ≡ padded (length list.old) (all_matches S.kind posed.now.question (traces_of S.kind.fields (standing catalog.now) store.now)) }
+    requires counted { standing catalog.now ≡ map (row_of S.kind F.rule (question_of posed.now.question)) (traces_of S.kind.fields (standing catalog.now) store.now) }
+    ensures { list.new ≡ padded (length list.old) (all_matches S.kind (question_of posed.now.question) (traces_of S.kind.fields (standing catalog.now) store.now)) }
 {
     blank_out(list, Match::NONE);
     let mut at = 0;

@@ -1,10 +1,9 @@
 -- A question's tuples have sizes that their numbers and their index take.
-use Rattle.std.specs.Prelude.{◌≡◌, ℕ, zero, suc, ◌+◌, ◌-◌, ◌*◌, ◌<◌, ◌≤◌, Bool, true, false, cond, List, ◌++◌, length, take, replicate, Ok, Err, Result, nat_lt, refl}
+use Rattle.std.specs.Prelude.{◌≡◌, ℕ, zero, suc, ◌+◌, ◌-◌, ◌*◌, ◌<◌, ◌≤◌, Bool, true, false, cond, List, length, take, Ok, Err, Result, nat_lt, refl}
 use Rattle.std.proofs.Common.{sym, ap, subst, ◌∙◌, arith, mul-suc, mul-one, add-one, length-take-le}
 use Rattle.std.proofs.Math.Arith.{digits_lt}
-use Rattle.std.proofs.lemmas.List.{take-append-drop}
 use Rattle.filters.specs.Matching.{Question}
-use Rattle.filters.specs.Questions.{question, Sizes, share, padded, Kept}
+use Rattle.filters.specs.Questions.{question, Sizes, share}
 use Rattle.filters.specs.Filters.{verdict, Fair, Below, StandsFor, Rule, Reach, pattern_of, Rowed}
 use Rattle.filters.specs.declared.refusal.Refusal.{Refusal}
 use Rattle.filters.specs.declared.refusal.Refusal.TheVariants.{QueryTooLong, BadLength}
@@ -91,9 +90,3 @@ fair_of codes q m k s full =
 
 pub stands_of : (rule : Rule) (reach : Reach) (b a : Question) → b ≡ a → Fair b → StandsFor rule reach (pattern_of rule reach b) a
 stands_of rule reach b a e f = subst (λ (z : Question). StandsFor rule reach (pattern_of rule reach b) z) e (record { fair = f; size = refl; span = refl; marks = λ t i j. refl })
-
--- what is held gives the array back
-pub kept_padded : (codes : List ℕ) (q m k : ℕ) → Kept codes q m k → padded (take q codes) ≡ codes
-kept_padded codes q m k kept =
-    ap (λ (n : ℕ). take q codes ++ replicate (1024 - n) 0) (long_at codes q m k (take q codes) kept.sizes kept.full refl) ∙
-    (ap (λ z. take q codes ++ z) (sym kept.blank) ∙ take-append-drop q codes)

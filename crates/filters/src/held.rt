@@ -1,12 +1,11 @@
 //! The question that a filter was set for.
-ghost use Rattle.std.specs.Prelude.{◌≡◌, ◌≤◌, length};
+ghost use Rattle.std.specs.Prelude.{◌≡◌, ◌≤◌, length, take, Ok, Err};
 ghost use Rattle.filters.specs.Asked.{asked};
-ghost use Rattle.filters.specs.Questions.{Sizes, padded, share};
+ghost use Rattle.filters.specs.Questions.{question, Sizes, share};
 ghost use Rattle.filters.specs.Filters.{Fair, verdict, none};
 
 use crate::question::Question;
 use crate::refusal::Refusal;
-use std::marker::Model;
 
 /// The most codes of a query.
 pub const MOST_CODES: usize = 1_024;
@@ -17,37 +16,25 @@ const MOST_MISMATCHES: usize = 15;
 
 /// A question, or none: its codes, the length m of its windows, and how many mismatches k they may have. A query has few enough
 /// codes for an array, so that a question is refused for its numbers alone and never for want of memory.
-// An array and how many of its codes count: a filter is copied whole, and may not use the heap.
+// An array and how many of its codes count: a filter is copied whole, and may not use the heap. It has no model: what holds
+// a value that has one cannot be passed by value and used again, and filters are.
 #[derive(Clone, Copy)]
 pub struct Held {
     codes: [u16; MOST_CODES],
     q: usize,
     m: usize,
     k: usize,
-}
-
-impl Model for Held {
-    ghost use Rattle.filters.specs.Matching.{Question};
-    ghost use Rattle.filters.specs.Questions.{question, Kept};
-
-    ghost Value = { Question };
-
-    ghost use Rattle.filters.specs.Asking.{fields_of, fields_back};
-
-    ghost view = { λ held. question held.codes held.q held.m held.k };
-
-    ghost invariant = { λ held. Kept held.codes held.q held.m held.k };
-
-    ghost inverse = { fields_of };
-
-    ghost inverse_ok = { fields_back };
+    ghost full: { length codes ≡ 1024 },
+    ghost sizes: { Sizes q m k },
 }
 
 impl Held {
+    ghost use Rattle.filters.specs.Asking.{question_of};
+
     /// No question.
     // A question of no codes, and no option: what is read of a question can be read of it too.
     pub fn new() -> Self
-        ensures { result ≡ none }
+        ensures { question_of result ≡ none }
     {
         Held {
             codes: [0; MOST_CODES],
@@ -59,21 +46,39 @@ impl Held {
 
     /// A question, held, if it can be set.
     pub fn of(question: Question<'_>) -> Result<Self, Refusal>
-        ensures { let a = asked question.entry in elim result [ Ok held ↦ (Ok tt ≡ verdict (length a.codes) a.m a.k) × (held ≡ a) × Fair held | Err e ↦ Err e ≡ verdict (length a.codes) a.m a.k ] }
+        ensures { let a = asked question.entry in elim result [ Ok held ↦ (Ok tt ≡ verdict (length a.codes) a.m a.k) × (question_of held ≡ a) × Fair (question_of held) | Err e ↦ Err e ≡ verdict (length a.codes) a.m a.k ] }
+    {
+        let mut held = Held::new();
+        held.set(question)?;
+        Ok(held)
+    }
+
+    /// Takes the question away.
+    pub fn clear(&mut self)
+        ensures { question_of self.new ≡ none }
+    {
+        self.q = 0;
+        self.m = 0;
+        self.k = 0;
+    }
+
+    /// Takes a question in; refused, it keeps the one before.
+    pub fn set(&mut self, question: Question<'_>) -> Result<(), Refusal>
+        ensures answer { result ≡ verdict (length question.entry.codes.now) question.entry.m question.entry.k }
+        ensures asked { elim result [ Ok _ ↦ question_of self.new ≡ asked question.entry | Err _ ↦ self.new ≡ self.old ] }
     {
         let Question { codes, m, k } = question;
         judge(codes.len(), m, k)?;
-        Ok(Held {
-            codes: padded(codes),
-            q: codes.len(),
-            m,
-            k,
-        })
+        copy(&mut self.codes, codes);
+        self.q = codes.len();
+        self.m = m;
+        self.k = k;
+        Ok(())
     }
 
     /// The question that is held, as it is brought to calls.
     pub fn as_question(&self) -> Question<'_>
-        ensures { asked result ≡ self.now }
+        ensures { asked result ≡ question_of self.now }
     {
         Question {
             codes: self.codes(),
@@ -84,7 +89,7 @@ impl Held {
 
     /// How many codes the query has.
     pub fn len(&self) -> usize
-        ensures { result ≡ length self.now.codes }
+        ensures { result ≡ length (question_of self.now).codes }
     {
         self.q
     }
@@ -98,7 +103,7 @@ impl Held {
 
     /// The mismatches k that a window may have.
     pub fn slack(&self) -> usize
-        ensures { (result ≡ self.now.k) × (result ≤ 15) × Fair self.now }
+        ensures { (result ≡ self.now.k) × (result ≤ 15) × Fair (question_of self.now) }
     {
         self.k
     }
@@ -112,7 +117,7 @@ impl Held {
 
     /// The query's codes.
     pub fn codes(&self) -> &[u16]
-        ensures { result.now ≡ self.now.codes }
+        ensures { result.now ≡ (question_of self.now).codes }
     {
         &self.codes[..self.q]
     }
@@ -135,12 +140,12 @@ fn judge(q: usize, m: usize, k: usize) -> Result<(), Refusal>
     Ok(())
 }
 
-/// Codes, and zeros after them.
-fn padded(codes: &[u16]) -> [u16; MOST_CODES]
-    requires { length codes.now ≤ 1024 }
-    ensures { result ≡ padded codes.now }
+/// Copies codes into the front of an array.
+// Apart from `set`, since no part of a field can be lent for writing there.
+fn copy(into: &mut [u16; MOST_CODES], from: &[u16])
+    requires { length from.now ≤ 1024 }
+    ensures full { length into.new ≡ 1024 }
+    ensures copied { take (length from.now) into.new ≡ from.now }
 {
-    let mut array = [0; MOST_CODES];
-    array[..codes.len()].copy_from_slice(codes);
-    array
+    into[..from.len()].copy_from_slice(from);
 }

@@ -1,4 +1,5 @@
 //! The filter that passes every place.
+ghost use Rattle.filters.specs.Asking.{question_of};
 ghost use Rattle.filters.specs.Questions.{pass_all_rule, pass_all_reach};
 ghost use Rattle.filters.specs.Filters.{Fair, StandsFor, pattern_of, none};
 ghost use Rattle.std.proofs.Common.{rules};
@@ -12,20 +13,20 @@ use crate::refusal::Refusal;
 #[derive(Clone, Copy)]
 pub struct PassAll {
     held: Held,
-    ghost fair: { Fair held },
+    ghost fair: { Fair (question_of held) },
 }
 
 impl PassAll {
     /// The filter with no question set.
     pub fn new() -> Self
-        ensures { StandsFor pass_all_rule pass_all_reach (pattern_of pass_all_rule pass_all_reach result.held) none }
+        ensures { StandsFor pass_all_rule pass_all_reach (pattern_of pass_all_rule pass_all_reach (question_of result.held)) none }
     {
         PassAll { held: Held::new() }
     }
 }
 
 impl Filter for PassAll {
-    ghost stands = { λ x. pattern_of pass_all_rule pass_all_reach x.held };
+    ghost stands = { λ x. pattern_of pass_all_rule pass_all_reach (question_of x.held) };
 
     ghost rule = { pass_all_rule };
 
@@ -46,12 +47,11 @@ impl Filter for PassAll {
     ghost necessary = { Prim.search rules };
 
     fn set(&mut self, question: Question<'_>) -> Result<(), Refusal> {
-        self.held = Held::of(question)?;
-        Ok(())
+        self.held.set(question)
     }
 
     fn clear(&mut self) {
-        *self = PassAll::new();
+        self.held.clear();
     }
 
     fn len(&self) -> usize {

@@ -1,6 +1,7 @@
 //! The filters by tuples of codes that a match is sure to share.
 ghost use Rattle.std.specs.Prelude.{◌≡◌, ◌<◌, Bool, length, ⊤};
 ghost use Rattle.std.specs.Option.{ForSome, ForNone};
+ghost use Rattle.filters.specs.Asking.{question_of};
 ghost use Rattle.filters.specs.Questions.{share};
 ghost use Rattle.filters.specs.Chains.{Heads, Links};
 ghost use Rattle.filters.specs.Rules.{gap, tuple_rule, tuple_reach, numbers, tuples};
@@ -39,11 +40,11 @@ pub struct Tuples<S: Spacing> {
     shape: Option<Shape>,
     index: Index,
     spacing: PhantomData<S>,
-    ghost fair: { Fair held },
-    ghost shaped: { ForSome shape (λ s. (0 < length held.codes) × (s.size ≡ share held.m held.k) × (s.gap ≡ gap S.wide held.k)) },
-    ghost unshaped: { ForNone shape (length held.codes ≡ 0) },
-    ghost headed: { 0 < length held.codes → Heads (numbers S.wide held) (tuples S.wide held) index.heads },
-    ghost linked: { 0 < length held.codes → Links (numbers S.wide held) (tuples S.wide held) index.links },
+    ghost fair: { Fair (question_of held) },
+    ghost shaped: { ForSome shape (λ s. (0 < length (question_of held).codes) × (s.size ≡ share held.m held.k) × (s.gap ≡ gap S.wide held.k)) },
+    ghost unshaped: { ForNone shape (length (question_of held).codes ≡ 0) },
+    ghost headed: { 0 < length (question_of held).codes → Heads (numbers S.wide (question_of held)) (tuples S.wide (question_of held)) index.heads },
+    ghost linked: { 0 < length (question_of held).codes → Links (numbers S.wide (question_of held)) (tuples S.wide (question_of held)) index.links },
 }
 
 // By hand: neither is derived for a generic struct with a ghost field.
@@ -62,7 +63,7 @@ impl<S: Spacing> Copy for Tuples<S> {}
 impl<S: Spacing> Tuples<S> {
     /// The filter with no question set.
     pub fn new() -> Self
-        ensures { StandsFor (tuple_rule S.wide) (tuple_reach S.wide) (pattern_of (tuple_rule S.wide) (tuple_reach S.wide) result.held) none }
+        ensures { StandsFor (tuple_rule S.wide) (tuple_reach S.wide) (pattern_of (tuple_rule S.wide) (tuple_reach S.wide) (question_of result.held)) none }
     {
         Tuples {
             held: Held::new(),
@@ -74,7 +75,7 @@ impl<S: Spacing> Tuples<S> {
 }
 
 impl<S: Spacing> Filter for Tuples<S> {
-    ghost stands = { λ x. pattern_of (tuple_rule S.wide) (tuple_reach S.wide) x.held };
+    ghost stands = { λ x. pattern_of (tuple_rule S.wide) (tuple_reach S.wide) (question_of x.held) };
 
     ghost rule = { tuple_rule S.wide };
 
@@ -82,7 +83,7 @@ impl<S: Spacing> Filter for Tuples<S> {
 
     ghost few = { λ x. x.fair.few };
 
-    ghost short = { λ x. reach_short S.wide x.held x.fair };
+    ghost short = { λ x. reach_short S.wide (question_of x.held) x.fair };
 
     ghost within = { Prim.search rules };
 
@@ -148,8 +149,8 @@ impl<S: Spacing> Filter for Tuples<S> {
 
 /// The shape of the tuples of a question.
 fn shape_of<S: Spacing>(held: &Held) -> Shape
-    requires some { 0 < length held.now.codes }
-    requires fair { Fair held.now }
+    requires some { 0 < length (question_of held.now).codes }
+    requires fair { Fair (question_of held.now) }
     ensures size { result.size ≡ share held.now.m held.now.k }
     ensures gap { result.gap ≡ gap S.wide held.now.k }
 {

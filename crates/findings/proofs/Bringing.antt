@@ -2,7 +2,6 @@
 use Rattle.std.proofs.Common.{◌≡◌, ℕ, zero, suc, ◌<◌, ◌≤◌, Bool, true, false, eqb, List, ◌∷◌, length, Ok, Err, Result, sym, refl, ap, ◌∙◌, subst, arith}
 use Rattle.std.proofs.lemmas.Bool.{eqb-true, true≢false}
 use Rattle.trace.specs.Told.{number_of}
-use Rattle.filters.specs.declared.filter.Filter.{Ghosts}
 use Rattle.filters.specs.Filters.{Rule, Reach, Pattern}
 use Rattle.catalog.specs.declared.refusal.Refusal as call
 use Rattle.catalog.specs.Refusals.{told}
@@ -25,7 +24,7 @@ more zero b is on = let z = sym is ∙ on in absurd (true≢false z)
 more (suc n) b is on = omega arith
 
 -- what is left to come in gives what all would have given: the calls so far, and turns for the bytes that are left
-pub record Going {F : Type 0} {gs : Ghosts F} (rule : Rule) (reach : Reach) (stands : F → Pattern) (h : List Call) (bytes : List ℕ) (d : Desk F gs) (rest : List ℕ) : Type 0 where
+pub record Going {F : Type 0} (rule : Rule) (reach : Reach) (stands : F → Pattern) (h : List Call) (bytes : List ℕ) (d : Desk F) (rest : List ℕ) : Type 0 where
   pub calls : List Call
   pub turns : ℕ
   pub holds : Keeps rule reach stands calls d
@@ -38,11 +37,11 @@ turn : (turns : ℕ) (rest : List ℕ) (s : State) (r : Result (Front (List ℕ)
 turn zero rest s r enough more is = let z : ⊥ = omega arith in absurd z
 turn (suc left) rest s r enough more is = (left, refl, all_more left rest s r more is)
 
-module _ {F : Type 0} {gs : Ghosts F} (rule : Rule) (reach : Reach) (stands : F → Pattern) (h : List Call) (bytes : List ℕ) where
-  pub going_first : (d : Desk F gs) → Keeps rule reach stands h d → Going rule reach stands h bytes d bytes
+module _ {F : Type 0} (rule : Rule) (reach : Reach) (stands : F → Pattern) (h : List Call) (bytes : List ℕ) where
+  pub going_first : (d : Desk F) → Keeps rule reach stands h d → Going rule reach stands h bytes d bytes
   going_first d at = record { calls = h; turns = length bytes; holds = at; enough = omega arith; same = refl }
 
-  module _ (d : Desk F gs) (rest : List ℕ) (going : Going rule reach stands h bytes d rest) where
+  module _ (d : Desk F) (rest : List ℕ) (going : Going rule reach stands h bytes d rest) where
     pub going_last : length rest ≤ 0 → (h' : List Call) × Keeps rule reach stands h' d × (all_in (length bytes) bytes (standing_after h) ≡ Ok (standing_after h'))
     going_last end = (going.calls, going.holds, going.same ∙ all_done going.turns rest (standing_after going.calls) end)
 
@@ -50,7 +49,7 @@ module _ {F : Type 0} {gs : Ghosts F} (rule : Rule) (reach : Reach) (stands : F 
     pub frame_refused : (e : ℕ) → 0 < length rest → Err e ≡ front_file rest → all_in (length bytes) bytes (standing_after h) ≡ Err e
     frame_refused e more is = going.same ∙ (turn going.turns rest (standing_after going.calls) (Err e) going.enough more is).2
 
-    module _ (d' : Desk F gs) (file : Front (List ℕ)) (more : 0 < length rest) (is : Ok file ≡ front_file rest) where
+    module _ (d' : Desk F) (file : Front (List ℕ)) (more : 0 < length rest) (is : Ok file ≡ front_file rest) where
       at_file : (left : ℕ) × (going.turns ≡ suc left) × (all_in going.turns rest (standing_after going.calls) ≡ and_then (Ok file) (one_in (all_in left) (standing_after going.calls)))
       at_file = turn going.turns rest (standing_after going.calls) (Ok file) going.enough more is
 
@@ -72,6 +71,6 @@ module _ {F : Type 0} {gs : Ghosts F} (rule : Rule) (reach : Reach) (stands : F 
           }
 
 -- a refusal ends it
-pub stopped : {A F : Type 0} {gs : Ghosts F} (rule : Rule) (reach : Reach) (stands : F → Pattern) (r : Result A Refusal) (e : Refusal) (d : Desk F gs) (x : Result State ℕ) →
+pub stopped : {A F : Type 0} (rule : Rule) (reach : Reach) (stands : F → Pattern) (r : Result A Refusal) (e : Refusal) (d : Desk F) (x : Result State ℕ) →
     (y : Refusal) × (r ≡ Err y) × (y ≡ e) → x ≡ Err (refusal_number e) → Reached rule reach stands r d x
 stopped rule reach stands r e d x exit is = subst (λ z. Reached rule reach stands z d x) (sym (exit.1 ∙ ap Err exit.2)) is

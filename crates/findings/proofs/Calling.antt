@@ -4,7 +4,6 @@ use Rattle.trace.specs.declared.pulse.Pulse.{Pulse}
 use Rattle.trace.specs.Kinds.{pulse}
 use Rattle.trace.specs.Refusals.{answer}
 use Rattle.trace.specs.Told.{number_of}
-use Rattle.filters.specs.declared.filter.Filter.{Ghosts}
 use Rattle.filters.specs.Filters.{Rule, Reach, Pattern}
 use Rattle.search.specs.declared.matches.Match.{Match}
 use Rattle.catalog.specs.declared.refusal.Refusal.{Refusal}
@@ -28,7 +27,7 @@ answered_so : {A : Type 0} (number : A → ℕ) (h : List Call) (c : Call) (r : 
 unfolding answered
 answered_so number h c r is = left_answered number (standing_after h) (outcome pulse opening (standing_after h) c) r is
 
-module _ {A F : Type 0} {gs : Ghosts F} (rule : Rule) (reach : Reach) (stands : F → Pattern) (call : Lengths → Call) (number : A → ℕ) (d d' : Desk F gs) (r : Result A Refusal) where
+module _ {A F : Type 0} (rule : Rule) (reach : Reach) (stands : F → Pattern) (call : Lengths → Call) (number : A → ℕ) (d d' : Desk F) (r : Result A Refusal) where
   -- what a call was brought is the desk's memory, and so is what it left
   pub called : (store store' : List Pulse) (list list' : List Match) (codes marks : List ℕ) →
       store ≡ vec_items d.store → list ≡ vec_items d.list → codes ≡ vec_items d.codes → marks ≡ vec_items d.marks →
@@ -56,7 +55,7 @@ module _ {A F : Type 0} {gs : Ghosts F} (rule : Rule) (reach : Reach) (stands : 
         answer = answered_so number h (call brought) r said;
       }
 
-module _ {F : Type 0} {gs : Ghosts F} (rule : Rule) (reach : Reach) (stands : F → Pattern) (d : Desk F gs) where
+module _ {F : Type 0} (rule : Rule) (reach : Reach) (stands : F → Pattern) (d : Desk F) where
   -- an opening is the desk's
   pub opened : (store : List Pulse) (list list' : List Match) → store ≡ vec_items d.store → list' ≡ vec_items d.list →
       length store ≡ 32768 → length list ≡ 2048 → length (vec_items d.codes) ≡ 4096 → length (vec_items d.marks) ≡ 1024 →
@@ -79,7 +78,7 @@ never_declined store list e s l is =
     omega arith
 
 -- a listing is of the desk's list
-pub listed : {F : Type 0} {gs : Ghosts F} (rule : Rule) (reach : Reach) (stands : F → Pattern) (h : List Call) (d : Desk F gs) (list : List Match) (r : Result Listing Refusal) (x : Listing) →
+pub listed : {F : Type 0} (rule : Rule) (reach : Reach) (stands : F → Pattern) (h : List Call) (d : Desk F) (list : List Match) (r : Result Listing Refusal) (x : Listing) →
     list ≡ vec_items d.list → r ≡ Ok x → ((store : List Pulse) → After pulse rule reach stands opening h d.collection store list → Lists pulse rule reach (standing_after h) r) →
     Keeps rule reach stands h d → Listed pulse rule reach (standing_after h) x.matches.now x.report
 listed rule reach stands h d list r x l is tells at =

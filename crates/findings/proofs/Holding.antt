@@ -1,7 +1,6 @@
 -- What a session leaves. Assumes nothing.
 use Rattle.std.proofs.Common.{◌≡◌, ℕ, suc, ◌*◌, ◌≤◌, List, [], reverse, length, Ok, Err, vec_items, Result, sym, ap, ◌∙◌, subst}
 use Rattle.trace.specs.Kinds.{pulse}
-use Rattle.filters.specs.declared.filter.Filter.{Ghosts}
 use Rattle.filters.specs.Filters.{Rule, Reach, Pattern}
 use Rattle.catalog.specs.Rows.{pairs_in, places_in}
 use Rattle.catalog.specs.Catalogs.{standing}
@@ -24,13 +23,13 @@ use Rattle.findings.proofs.Playing.{plays}
 pub begun : (input : List ℕ) (a : Front Asked) (r : Result State ℕ) → Ok a ≡ questioned input → answered (standing_after []) (asking a.value) ≡ r → session input ≡ and_then r (all_in (length a.rest) a.rest)
 begun input a r is said = ap (λ x. and_then x session_of) (sym is) ∙ ap (λ x. and_then x (all_in (length a.rest) a.rest)) said
 
-module _ {F : Type 0} {gs : Ghosts F} (rule : Rule) (reach : Reach) (stands : F → Pattern) where
+module _ {F : Type 0} (rule : Rule) (reach : Reach) (stands : F → Pattern) where
   -- a refusal ends it
-  pub stopped : (r : Result (Desk F gs) (Failure Refusal)) (e : Refusal) (x : Result State ℕ) → (y : Failure Refusal) × (r ≡ Err y) × (y ≡ Refused e) → x ≡ Err (refusal_number e) → Left rule reach stands r x
+  pub stopped : (r : Result (Desk F) (Failure Refusal)) (e : Refusal) (x : Result State ℕ) → (y : Failure Refusal) × (r ≡ Err y) × (y ≡ Refused e) → x ≡ Err (refusal_number e) → Left rule reach stands r x
   stopped r e x exit is = subst (λ z. Left rule reach stands z x) (sym (exit.1 ∙ ap Err exit.2)) is
 
   -- calls after which the same stands have the same promise
-  moved : (h h' : List Call) (d : Desk F gs) → standing_after h ≡ standing_after h' → Keeps rule reach stands h d → Keeps rule reach stands h' d
+  moved : (h h' : List Call) (d : Desk F) → standing_after h ≡ standing_after h' → Keeps rule reach stands h d → Keeps rule reach stands h' d
   moved h h' d same at =
       record {
         after = record {
@@ -42,7 +41,7 @@ module _ {F : Type 0} {gs : Ghosts F} (rule : Rule) (reach : Reach) (stands : F 
         marks = at.marks;
       }
 
-  by_law : (cs : List Call) (x : Result State ℕ) → PlaysCalls cs x → (r : Result (Desk F gs) (Failure Refusal)) → Left rule reach stands r x → ByCalls rule reach stands cs r
+  by_law : (cs : List Call) (x : Result State ℕ) → PlaysCalls cs x → (r : Result (Desk F) (Failure Refusal)) → Left rule reach stands r x → ByCalls rule reach stands cs r
   by_law cs x law (Ok d) left =
       let same = law.stands (standing_after left.0) left.2 in
       (moved left.0 (reverse cs) d same left.1, sym law.is ∙ left.2 ∙ ap Ok same)
@@ -50,5 +49,5 @@ module _ {F : Type 0} {gs : Ghosts F} (rule : Rule) (reach : Reach) (stands : F 
   by_law cs x law (Err (NoMemory e)) left = tt
 
   -- an input of parts is played by their calls
-  pub by_calls : (input : List ℕ) (r : Result (Desk F gs) (Failure Refusal)) → Left rule reach stands r (session input) → (p : Parts) → Holds input p → ByCalls rule reach stands (calls p) r
+  pub by_calls : (input : List ℕ) (r : Result (Desk F) (Failure Refusal)) → Left rule reach stands r (session input) → (p : Parts) → Holds input p → ByCalls rule reach stands (calls p) r
   by_calls input r left p h = by_law (calls p) (session input) (plays input p h) r left

@@ -49,7 +49,7 @@ fn summary(report: Report) -> Summary
 
 /// A collection, and the memory that its calls are brought.
 #[derive(Drop)]
-pub struct Desk<F: Filter> {
+pub struct Desk<F> {
     collection: Collection<Pulse, F>,
     store: Vec<Pulse>,
     list: Vec<Match>,

@@ -3,6 +3,7 @@ use Rattle.std.proofs.Common.{◌≡◌, ℕ, ◌<◌, List, ◌∷◌, map, len
 use Rattle.trace.specs.Reading.{head}
 use Rattle.trace.specs.Refusals as file
 use Rattle.trace.specs.Refusals.{answer}
+use Rattle.filters.specs.Asking.{question_of}
 use Rattle.filters.specs.Filters.{verdict, StandsFor}
 use Rattle.filters.specs.Matching.{Question}
 use Rattle.catalog.specs.declared.row.Row.{Row}
@@ -62,7 +63,7 @@ pub returns-in_err-counts-clause-kept : goal.returns-in_err-counts-clause-kept
 returns-in_err-counts-clause-kept g c =
     let l : Lengths = lengths c.args.store.now c.args.list.now c.args.codes.now c.args.marks.now in
     let right = c.in_ok-check_memory.ensures in
-    let q = put g.S.Sample.kind (query g (goal.at.returns-in_err-counts-clause-kept g c).In_ok-header) c.args.m c.args.k c.in_ok-posed.posed.question c.in_ok-posed.ensures.0 c.in_ok-posed.ensures.1 in
+    let q = put g.S.Sample.kind (query g (goal.at.returns-in_err-counts-clause-kept g c).In_ok-header) c.args.m c.args.k (question_of c.in_ok-posed.posed.question) c.in_ok-posed.ensures.0 c.in_ok-posed.ensures.1 in
     let exit = c.from_residual-in_err-counts in
     let e = c.in_err-counts.field-0.0 in
     let said = c.in_err-counts.ensures in
@@ -76,17 +77,17 @@ pub returns-in_err-recount-clause-kept : goal.returns-in_err-recount-clause-kept
 returns-in_err-recount-clause-kept g c =
     let l : Lengths = lengths c.args.store.now c.args.list.now c.args.codes.now c.args.marks.now in
     let right = c.in_ok-check_memory.ensures in
-    let q = put g.S.Sample.kind (query g (goal.at.returns-in_err-recount-clause-kept g c).In_ok-header) c.args.m c.args.k c.in_ok-posed.posed.question c.in_ok-posed.ensures.0 c.in_ok-posed.ensures.1 in
+    let q = put g.S.Sample.kind (query g (goal.at.returns-in_err-recount-clause-kept g c).In_ok-header) c.args.m c.args.k (question_of c.in_ok-posed.posed.question) c.in_ok-posed.ensures.0 c.in_ok-posed.ensures.1 in
     let k : Catalog = c.args.self.now.catalog in
     let counts : List Count = c.in_ok-counts.counts in
-    let n = counts_here g.S.Sample.kind g.F.Filter.rule c.in_ok-posed.posed.question (question g.S.Sample.kind c.args.m c.args.k q.trace) k c.args.store.now counts q.asked_is c.in_ok-counts.ensures in
+    let n = counts_here g.S.Sample.kind g.F.Filter.rule (question_of c.in_ok-posed.posed.question) (question g.S.Sample.kind c.args.m c.args.k q.trace) k c.args.store.now counts q.asked_is c.in_ok-counts.ensures in
     let exit = c.from_residual-in_err-recount in
     let e = c.in_err-recount.field-0.0 in
     let said = c.in_err-recount.ensures in
     let full = recount_refused (standing k) k.list counts e n.few said.0 in
     let is : exit.result ≡ Err ListFull = exit_is exit.result e exit.ensures.1 ∙ ap Err full.0 in
     λ o h w.
-    subst (λ (z : Catalog). After g.S.Sample.kind g.F.Filter.rule g.F.Filter.reaches g.F.Filter.stands o (ask l c.args.file.now c.args.m c.args.k ∷ h) (record { kind = c.args.self.now.kind; posed = c.args.self.now.posed; mark = c.args.self.now.mark; catalog = z }) c.args.store.now c.args.list.now × Answers (answer (λ _. 0) told exit.result) (outcome g.S.Sample.kind o (after g.S.Sample.kind o h) (ask l c.args.file.now c.args.m c.args.k))) (sym said.1)
+    subst (λ (z : Catalog). After g.S.Sample.kind g.F.Filter.rule g.F.Filter.reaches g.F.Filter.stands o (ask l c.args.file.now c.args.m c.args.k ∷ h) (record { kind = c.args.self.now.kind; filter = c.args.self.now.filter; question = c.args.self.now.question; mark = c.args.self.now.mark; catalog = z }) c.args.store.now c.args.list.now × Answers (answer (λ _. 0) told exit.result) (outcome g.S.Sample.kind o (after g.S.Sample.kind o h) (ask l c.args.file.now c.args.m c.args.k))) (sym said.1)
     (refused_by w (λ _. 0) exit.result ListFull is (ask l c.args.file.now c.args.m c.args.k)
     (ask_full w.holds l c.args.file.now c.args.m c.args.k right q.trace q.is q.fair (omega (arith, full.1, n.pairs))))
 
@@ -96,7 +97,7 @@ list_traces-requires g c =
     let rl = right_lengths c.args.self.now.catalog.store c.args.self.now.catalog.list l c.in_ok-check_memory.ensures in
     let k : Catalog = c.args.self.now.catalog in
     let rs : List Row = standing k in
-    let a : Question = c.in_ok-posed.posed.question in
+    let a : Question = question_of c.in_ok-posed.posed.question in
     let counts : List Count = c.in_ok-counts.counts in
     let n = counts_here g.S.Sample.kind g.F.Filter.rule a a k c.args.store.now counts refl c.in_ok-counts.ensures in
     let said = c.in_ok-recount.ensures in
@@ -112,16 +113,16 @@ pub returns-clause-kept : goal.returns-clause-kept
 returns-clause-kept g c =
     let l : Lengths = lengths c.args.store.now c.args.list.now c.args.codes.now c.args.marks.now in
     let right = c.in_ok-check_memory.ensures in
-    let q = put g.S.Sample.kind (query g (goal.at.returns-clause-kept g c).In_ok-header) c.args.m c.args.k c.in_ok-posed.posed.question c.in_ok-posed.ensures.0 c.in_ok-posed.ensures.1 in
+    let q = put g.S.Sample.kind (query g (goal.at.returns-clause-kept g c).In_ok-header) c.args.m c.args.k (question_of c.in_ok-posed.posed.question) c.in_ok-posed.ensures.0 c.in_ok-posed.ensures.1 in
     let k : Catalog = c.args.self.now.catalog in
     let a : Question = question g.S.Sample.kind c.args.m c.args.k q.trace in
     let counts : List Count = c.in_ok-counts.counts in
-    let n = counts_here g.S.Sample.kind g.F.Filter.rule c.in_ok-posed.posed.question a k c.args.store.now counts q.asked_is c.in_ok-counts.ensures in
+    let n = counts_here g.S.Sample.kind g.F.Filter.rule (question_of c.in_ok-posed.posed.question) a k c.args.store.now counts q.asked_is c.in_ok-counts.ensures in
     let said = c.in_ok-recount.ensures in
     let set_is = subst (StandsFor g.F.Filter.rule g.F.Filter.reaches (g.F.Filter.stands c.in_ok-posed.posed.filter)) q.asked_is c.in_ok-posed.posed.set in
     λ o h w.
     accepted_kept g.met.S.Sample.agreeing g.met.F.Filter.inside g.met.F.Filter.necessary h (ask l c.args.file.now c.args.m c.args.k) 0
-    (ask_holds w.holds a c.in_ok-posed.posed c.recount.new.self counts c.list_traces.new.list q.asked_is set_is n.are said.1 said.2 c.list_traces.auto.list
+    (ask_holds w.holds a c.in_ok-posed.posed.question c.in_ok-posed.posed.filter c.recount.new.self counts c.list_traces.new.list q.asked_is set_is n.are said.1 said.2 c.list_traces.auto.list
     (c.list_traces.ensures ∙ ap (λ (z : Question). padded (length c.args.list.now) (all_matches g.S.Sample.kind z (traces_of g.S.Sample.kind.fields (standing c.recount.new.self) c.args.store.now))) q.asked_is))
     (ask_met w.holds l c.args.file.now c.args.m c.args.k right q.trace q.is q.fair (omega (arith, recount_fits (standing k) k.list counts n.few said.0, n.pairs)))
 

@@ -24,7 +24,7 @@ returns g c =
       kept = λ store list o h w.
           lend_kept w
           c.args.number c.in_ok-at.at c.in_ok-at.row c.in_ok-at.ensures.0 c.in_ok-at.ensures.2 g.met.S.Sample.agreeing g.met.F.Filter.inside g.met.F.Filter.necessary
-          _ _ c.set_loans.ensures.rows c.set_loans.ensures.same refl refl refl few c.new.result.number (sym (ap (λ s. s.number) c.new.ensures));
+          _ _ c.set_loans.ensures.rows c.set_loans.ensures.same refl refl refl refl few c.new.result.number (sym (ap (λ s. s.number) c.new.ensures));
       slip = (ap (λ s. s.mark) c.new.ensures, ap (λ s. s.number) c.new.ensures);
       same = tt;
     }

@@ -15,5 +15,5 @@ returns-in-Ok-clause-kept g c = λ store list o h w.
     let found = c.in-Ok.ensures.1 in
     back_kept w
     c.args.slip.number c.in-Ok.at c.in-Ok.row found.0 found.2
-    g.met.S.Sample.agreeing g.met.F.Filter.inside g.met.F.Filter.necessary _ _ c.set_loans.ensures.rows c.set_loans.ensures.same refl refl
+    g.met.S.Sample.agreeing g.met.F.Filter.inside g.met.F.Filter.necessary _ _ c.set_loans.ensures.rows c.set_loans.ensures.same refl refl refl
     c.args.slip.mark c.in-Ok.ensures.0 refl c.in-Ok.ensures.2
