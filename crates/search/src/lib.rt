@@ -6,3 +6,6 @@ pub mod examples;
 pub mod matches;
 pub mod refusal;
 pub mod scan;
+
+// A question is what a filter is set for, and stands with the filters; a search names it too.
+pub use filters::question;
