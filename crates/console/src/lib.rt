@@ -3,6 +3,7 @@
 #![tactic(auto)]
 
 pub mod failure;
+pub mod input;
 pub mod parts;
 pub mod refusal;
 pub mod table;

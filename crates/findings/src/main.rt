@@ -8,18 +8,17 @@ mod refusal;
 mod report;
 mod session;
 
+use console::input::fill;
 use console::parts::LONGEST_INPUT;
 use report::report;
 use std::io;
-use std::io::Read;
 
 // As in the other programs: a shared one would take the report as a closure, and ask its caller that it may be called.
 fn main(rt: HostRuntime) -> io::Result<()> {
     let heap = rt.alloc();
-    let mut input = Vec::new(heap);
     // One byte more than the program takes, so that a longer input is refused and not cut off.
-    rt.stdin()
-        .take(LONGEST_INPUT as u64 + 1)
-        .read_to_end(&mut input)?;
-    rt.print(report(heap, input.as_slice())?)
+    let mut buffer = vec![in heap; 0u8; LONGEST_INPUT + 1]?;
+    let size = fill(&mut rt.stdin(), buffer.as_mut_slice())?;
+    buffer.truncate(size);
+    rt.print(report(heap, buffer.as_slice())?)
 }
