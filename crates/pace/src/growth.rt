@@ -1,9 +1,8 @@
 //! How the time to set a question grows with the query.
 use crate::failure::Failure;
-use crate::input::SEED;
+use crate::input::start;
 use crate::stopwatch::time_set;
 use crate::visit::{Visitor, visit_filters};
-use draws::Draws;
 use filters::filter::Filter;
 use filters::held::MOST_CODES;
 use trace::pulse::Pulse;
@@ -30,7 +29,7 @@ impl Visitor for Growths<'_> {
 
     fn visit<F: Filter>(&self, name: &str, mut filter: F) -> Result<(), Failure> {
         let rt = self.rt;
-        let mut draws = Draws::new(SEED);
+        let mut draws = start();
         eprint!(rt; "{name} set")?;
         for q in LENGTHS {
             let query = draws.codes(rt.alloc(), q, Pulse::CODES)?;

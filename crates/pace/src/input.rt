@@ -11,7 +11,14 @@ use trace::pulse::Pulse;
 use trace::sample::Sample;
 
 /// Where the draws start. Any number will do, as long as it stays the same.
-pub const SEED: u64 = 20_260_101;
+const SEED: u64 = 20_260_101;
+
+/// The draws from the start on.
+pub fn start() -> Draws
+    ensures { result ≡ 20260101 }
+{
+    Draws::new(SEED)
+}
 
 /// The codes of the query, the most that a filter takes.
 const QUERY: usize = MOST_CODES;
@@ -54,7 +61,7 @@ impl Input {
     pub fn random(heap: Global) -> Result<Input, AllocError>
         ensures { IfOk result (Sized 4096) }
     {
-        let mut draws = Draws::new(SEED);
+        let mut draws = start();
         let query = draws.codes(heap, QUERY, Pulse::CODES)?;
         let mut trace = draws.codes(heap, TRACE, Pulse::CODES)?;
         plant(query.as_slice(), trace.as_mut_slice());

@@ -1,5 +1,6 @@
 //! The filters that are tried.
-ghost use Rattle.std.specs.Prelude.{◌+◌, ◌≤◌};
+ghost use Rattle.std.specs.Prelude.{◌≡◌, ◌+◌, ◌^◌, ◌<◌, ◌≤◌, OnOk};
+ghost use Rattle.trials.specs.declared.filter_set.TheConstants.{FILTERS};
 
 use crate::failure::Failure;
 use crate::trials::Trial;
@@ -42,7 +43,8 @@ impl Filters {
 
     /// Runs a trial with every filter in turn.
     pub fn run(&mut self, trial: &mut Trial) -> Result<(), Failure>
-        ensures { (trial.old.differ ≤ trial.new.differ) × (trial.new.differ ≤ trial.old.differ + 7) }
+        ensures differ { (trial.old.differ ≤ trial.new.differ) × (trial.new.differ ≤ trial.old.differ + 7) }
+        ensures tried { trial.old.tried + FILTERS < 2 ^ 32 → OnOk result (trial.new.tried ≡ trial.old.tried + FILTERS) }
     {
         trial.run("PassAll", &mut self.pass_all)?;
         trial.run("Continuous", &mut self.continuous)?;

@@ -1,5 +1,5 @@
 //! Cases drawn and tried one after another.
-ghost use Rattle.std.specs.Prelude.{◌+◌, ◌≤◌};
+ghost use Rattle.std.specs.Prelude.{◌≡◌, ◌+◌, ◌^◌, ◌<◌, ◌≤◌};
 
 use crate::cases::Case;
 use crate::compare::compare;
@@ -34,6 +34,7 @@ pub fn try_cases(
             case: &case,
             expected: expected.as_slice(),
             differ: 0,
+            tried: 0,
         };
         filters.run(&mut trial)?;
         tally.differ = tally.differ.saturating_add(trial.differ);
@@ -49,13 +50,17 @@ pub struct Trial<'a> {
     expected: &'a [Match],
     /// How many filters answer otherwise than expected.
     differ: u32,
+    /// How many filters it was tried with.
+    tried: u32,
 }
 
 impl Trial<'_> {
     /// Tries the case with a filter, and prints how it answers otherwise than expected, if it does.
     pub fn run<F: Filter>(&mut self, name: &str, filter: &mut F) -> Result<(), Failure>
-        ensures { (self.old.differ ≤ self.new.differ) × (self.new.differ ≤ self.old.differ + 1) }
+        ensures differ { (self.old.differ ≤ self.new.differ) × (self.new.differ ≤ self.old.differ + 1) }
+        ensures tried { self.old.tried + 1 < 2 ^ 32 → self.new.tried ≡ self.old.tried + 1 }
     {
+        self.tried = self.tried.saturating_add(1);
         match compare(self.rt.alloc(), filter, self.case, self.expected) {
             Ok(()) => Ok(()),
             Err(Fault::Differs(difference)) => {
