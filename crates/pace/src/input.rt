@@ -15,7 +15,7 @@ const SEED: u64 = 20_260_101;
 
 /// The draws from the start on.
 pub fn start() -> Draws
-    ensures { result ≡ 20260101 }
+    ensures { result.state ≡ 20260101 }
 {
     Draws::new(SEED)
 }

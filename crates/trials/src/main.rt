@@ -26,7 +26,7 @@ const SEED: u64 = 4_021_989;
 
 /// The draws from the start on.
 fn start() -> Draws
-    ensures { result ≡ 4021989 }
+    ensures { result.state ≡ 4021989 }
 {
     Draws::new(SEED)
 }
